@@ -1,7 +1,7 @@
 # Thin names for the commands of the kit. README.md says what each costs.
 PREFIX ?= /usr/local
 
-.PHONY: demo build install test bench fuzz
+.PHONY: demo build install test bench fuzz picture
 
 demo: ## runs an example script by the program as it stands, before any proof
 	@cd crates/rdr && rt try -- both < ../../examples/open_read_close.script
@@ -30,6 +30,10 @@ fuzz: ## tries to break the built program for a minute or two: docs/ROBUSTNESS.m
 	python3 tools/kills.py --sessions 50
 	python3 tools/limits.py
 	python3 tools/share.py --seconds 5
+
+picture: ## draws docs/session.svg anew by the built program, and tries the script that draws
+	tools/draw-recording examples/read_removal_wait.rec > session.svg && mv session.svg docs/session.svg
+	python3 tools/draw_recording_test.py bin/rdr
 
 bench: ## what is measured, and how: bench/README.md
 	bench/run

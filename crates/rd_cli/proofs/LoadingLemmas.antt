@@ -36,6 +36,7 @@ stopped_script number output recording recording_after books (stop.Channel chann
 stopped_script number output recording recording_after books stop.Link other = absurd other
 stopped_script number output recording recording_after books stop.Long other = absurd other
 stopped_script number output recording recording_after books stop.Folder other = absurd other
+stopped_script number output recording recording_after books (stop.No found) other = absurd other
 
 pub stopped_loading : {K R : Type 0} (number : ℕ) (script : Script) (output : Stream K) (recording recording_after : Stream R) (books : List (ℕ × History)) (s : Stop)
     → script ≡ load_script number → StopsForRecording script recording recording_after books s → StoppedLoading number output output recording recording_after books s
@@ -63,6 +64,7 @@ printed {T} number output output_after recording recording_after books script to
     by (Err stop.Link) own prints = absurd prints
     by (Err stop.Long) own prints = absurd prints
     by (Err stop.Folder) own prints = absurd prints
+    by (Err (stop.No found)) own prints = absurd prints
 
 -- ---- the end, by the status
 -- A load that came to its end ends with 0.
@@ -113,3 +115,4 @@ stopped_end number output middle output_after recording recording_after books (s
 stopped_end number output middle output_after recording recording_after books stop.Link status stopped said = absurd stopped
 stopped_end number output middle output_after recording recording_after books stop.Long status stopped said = absurd stopped
 stopped_end number output middle output_after recording recording_after books stop.Folder status stopped said = absurd stopped
+stopped_end number output middle output_after recording recording_after books (stop.No found) status stopped said = absurd stopped

@@ -1,24 +1,31 @@
 -- Scripts that were read from an input, and bad lines.
-use Rattle.std.proofs.Common.{◌≡◌, ◌≤◌, ℕ, List, ◌++◌, length, Option, Some, None, sym, ap, ◌∙◌, append-nil, inl, inr}
+use Rattle.std.proofs.Common.{◌≡◌, ◌≤◌, ◌<◌, ◌^◌, arith, ℕ, List, ◌++◌, length, Option, Some, None, sym, ap, ◌∙◌, append-nil, inl, inr}
 use Rattle.std.proofs.lemmas.Bool.{cases_lt}
 use Rattle.std.proofs.lemmas.Option.{same_Some}
-use Rattle.std.specs.Prelude.{Result, Ok, Err, IfOk}
+use Rattle.std.specs.Prelude.{Ok, Err}
 use Rattle.std.specs.Io.KnownBytes.{Consumes, IsAtEnd}
 use Rattle.rd_script.specs.declared.keyword.Mode.{Mode}
 use Rattle.rd_script.specs.declared.script.Script.{Script}
 use Rattle.rd_script.specs.Script.{BadLine, max_bytes, script_of}
 use Rattle.rd_cli.proofs.LimitLemmas.{script_cut, script_short}
 use Rattle.rd_cli.specs.Outside.{Read, ReadToEnd, Stream}
-use Rattle.rd_cli.specs.Reading.{GivesBadLine, GivesScript, HasRead, ReadsScript}
+use Rattle.rd_cli.specs.Reading.{GivesBadLine, GivesScript, HasRead, ReadsScript, ReadsText}
 
--- a script that is short enough to be one was read to the input's end
-read_whole : {S : Type 0} (m : Mode) (before after : Stream S) (text : List ℕ) (script : Script) → Read before after text → (length text ≤ max_bytes → IsAtEnd after.bytes) → script_of m text ≡ Ok script → ReadsScript m before after script
-read_whole m before after text script read whole is = record { text = text; read = record { read = read; ended = whole (script_short m text script is) }; script_is = is }
+-- A text that is a script was read to the input's end, since it is short enough; `shown` is what the reader of scripts was shown.
+pub text_read : {S : Type 0} (m : Mode) (before after : Stream S) (text shown : List ℕ) (script : Script) → Read before after text → (length text ≤ max_bytes → IsAtEnd after.bytes) → shown ≡ text → script_of m shown ≡ Ok script
+    → ReadsText m before after text script
+text_read m before after text shown script read whole same is =
+    let own : script_of m text ≡ Ok script = ap (script_of m) (sym same) ∙ is in record { read = record { read = read; ended = whole (script_short m text script own) }; script_is = own }
 
-pub script_read : {S E : Type 0} (m : Mode) (before after : Stream S) (text : List ℕ) (r : Result Script E) → Read before after text → (length text ≤ max_bytes → IsAtEnd after.bytes) → IfOk r (λ script. script_of m text ≡ Ok script)
-    → IfOk r (ReadsScript m before after)
-script_read m before after text (Ok script) read whole is = read_whole m before after text script read whole is
-script_read m before after text (Err e) read whole is = tt
+-- the same without its text
+pub script_read : {S : Type 0} (m : Mode) (before after : Stream S) (text : List ℕ) (script : Script) → ReadsText m before after text script → ReadsScript m before after script
+script_read m before after text script reads = record { text = text; read = reads.read; script_is = reads.script_is }
+
+-- so where it is lent it is short
+pub text_short : {S : Type 0} (m : Mode) (before after : Stream S) (text lent : List ℕ) (script : Script) → ReadsText m before after text script → lent ≡ text → length lent < 2 ^ 32
+text_short m before after text lent script reads same =
+    let short : length text ≤ 67108864 = script_short m text script reads.script_is in
+    let so_long : length lent ≡ length text = ap (λ (l : List ℕ). length l) same in omega (arith, short, so_long)
 
 -- No text is both.
 never_both : (m : Mode) (text : List ℕ) (script : Script) (bad : BadLine) → script_of m text ≡ Ok script → script_of m text ≡ Err bad → ⊥

@@ -5,6 +5,7 @@ use Rattle.std.proofs.lemmas.Fmt.{decimal_injective}
 use Rattle.rd_base.specs.History.{History}
 use Rattle.rd_script.specs.declared.keyword.Mode.TheVariants as mode
 use Rattle.rd_cli.specs.Outside.{Linked, Outside, Sharing, Stream}
+use Rattle.rd_cli.specs.Headline.{audit_printed, report_printed}
 use Rattle.rd_cli.specs.Shapes.{HasShape, IsAt, StopsForWords}
 use Rattle.rd_cli.specs.Stops.{StopsWith}
 use Rattle.rd_cli.specs.Client.{IsClientSession, IsEndOfClient, IsFolderUnopened, ServedNothing}
@@ -15,6 +16,7 @@ use Rattle.rd_cli.specs.declared.words.Command.TheVariants as command
 use Rattle.rd_cli.specs.declared.stop.Stop.{Stop}
 use Rattle.rd_cli.specs.declared.stop.Stop.TheVariants as stop
 use Rattle.rd_cli.proofs.PlayingLemmas.{starved_end, starved_unplayed, with_output}
+use Rattle.rd_cli.proofs.AuditingLemmas as auditing
 use Rattle.rd_cli.proofs.DecodingLemmas as decoding
 use Rattle.rd_cli.proofs.LoadingLemmas as loading
 use Rattle.rd_cli.proofs.ServingLemmas as serving
@@ -23,9 +25,13 @@ use Rattle.rd_cli.proofs.ServingLemmas as serving
 starved : {S K R L D : Type 0} (before : Outside S K R) (output : Stream K) (linked : Linked L) (sharing : Sharing D) (books : List (ℕ × History)) (status : ℕ) → status ≡ 6 → output ≡ before.output → books ≡ [] → (c : Command)
     → EndsCommand c before (with_output before output) linked linked sharing sharing books status
 starved before output linked sharing books status is silent unstored command.Both =
-    (starved_end before (with_output before output) books status is (starved_unplayed before (with_output before output) books refl silent refl unstored), refl, refl)
+    (starved_end report_printed before (with_output before output) books status is (starved_unplayed before (with_output before output) books refl silent refl unstored), refl, refl)
+starved before output linked sharing books status is silent unstored command.Trace =
+    (starved_end audit_printed before (with_output before output) books status is (starved_unplayed before (with_output before output) books refl silent refl unstored), refl, refl)
 starved before output linked sharing books status is silent unstored command.Decode =
     (decoding.starved_end before.input before.input before.output output status is (decoding.untouched before.input before.output output silent), refl, unstored, refl, refl)
+starved before output linked sharing books status is silent unstored command.Audit =
+    (auditing.starved_end before.input before.input before.output output status is refl silent, refl, unstored, refl, refl)
 starved before output linked sharing books status is silent unstored (command.Load number) =
     (loading.starved_end number before.output output before.recording before.recording books status is silent (inl (refl, unstored)), refl, refl, refl)
 starved before output linked sharing books status is silent unstored (command.Client path) = (
@@ -62,6 +68,7 @@ no_command words before output linked sharing books (stop.Channel channel at mes
 no_command words before output linked sharing books stop.Link status bad unstored said = absurd bad
 no_command words before output linked sharing books stop.Long status bad unstored said = absurd bad
 no_command words before output linked sharing books stop.Folder status bad unstored said = absurd bad
+no_command words before output linked sharing books (stop.No found) status bad unstored said = absurd bad
 
 -- ---- two words
 
@@ -96,7 +103,9 @@ load_runs words before after linked linked_after sharing sharing_after books num
   where
     by : (c : Command) → HasShape words c → EndsCommand c before after linked linked_after sharing sharing_after books status
     by command.Both own = absurd (one_word words (codes "load") (decimal number) (codes "both") shape.0 own)
+    by command.Trace own = absurd (one_word words (codes "load") (decimal number) (codes "trace") shape.0 own)
     by command.Decode own = absurd (one_word words (codes "load") (decimal number) (codes "decode") shape.0 own)
+    by command.Audit own = absurd (one_word words (codes "load") (decimal number) (codes "audit") shape.0 own)
     by (command.Load other) own = subst (λ (n : ℕ). EndsCommand (command.Load n) before after linked linked_after sharing sharing_after books status) (same_load words number other shape own) ends
     by (command.Client path) own = absurd (load_no_client words number path.now shape own)
     by (command.Host path) own = absurd (load_no_host words number path.now shape own)
@@ -109,7 +118,9 @@ client_runs words before after linked linked_after sharing sharing_after books p
   where
     by : (c : Command) → HasShape words c → EndsCommand c before after linked linked_after sharing sharing_after books status
     by command.Both other = absurd (one_word words (codes "client") path (codes "both") is.0 other)
+    by command.Trace other = absurd (one_word words (codes "client") path (codes "trace") is.0 other)
     by command.Decode other = absurd (one_word words (codes "client") path (codes "decode") is.0 other)
+    by command.Audit other = absurd (one_word words (codes "client") path (codes "audit") is.0 other)
     by (command.Load number) other = absurd (load_no_client words number path other is)
     by (command.Client p) other = (ends, unrecorded)
     by (command.Host p) other = absurd (client_no_host words path p.now is other)
@@ -122,7 +133,9 @@ host_runs words before after linked linked_after sharing sharing_after books pat
   where
     by : (c : Command) → HasShape words c → EndsCommand c before after linked linked_after sharing sharing_after books status
     by command.Both other = absurd (one_word words (codes "host") path (codes "both") is.0 other)
+    by command.Trace other = absurd (one_word words (codes "host") path (codes "trace") is.0 other)
     by command.Decode other = absurd (one_word words (codes "host") path (codes "decode") is.0 other)
+    by command.Audit other = absurd (one_word words (codes "host") path (codes "audit") is.0 other)
     by (command.Load number) other = absurd (load_no_host words number path other is)
     by (command.Client p) other = absurd (client_no_host words p.now path other is)
     by (command.Host p) other = (ends, unrecorded, unstored, unshared)

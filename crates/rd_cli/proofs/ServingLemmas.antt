@@ -226,3 +226,4 @@ module _ {S K : Type 0} (m : Mode) (Session : Script → Ended → List ℕ → 
   stopped_end stop.Link other unserved said = absurd other
   stopped_end stop.Long other unserved said = absurd other
   stopped_end stop.Folder other unserved said = absurd other
+  stopped_end (stop.No found) other unserved said = absurd other

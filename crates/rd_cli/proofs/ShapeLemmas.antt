@@ -30,15 +30,21 @@ use Rattle.rd_cli.specs.Parser.{IsNameOf, commands}
 -- ---- commands of one word
 pub data Plain : Type 0 where
   both : Plain
+  trace : Plain
   decode : Plain
+  audit : Plain
 
 abbrev pub name_of : Plain → Text
 name_of both = codes "both"
+name_of trace = codes "trace"
 name_of decode = codes "decode"
+name_of audit = codes "audit"
 
 abbrev command_of : Plain → Command
 command_of both = command.Both
+command_of trace = command.Trace
 command_of decode = command.Decode
+command_of audit = command.Audit
 
 -- ---- words that stray
 -- A word that is neither a flag nor a command's name strays, where there are no arguments.
@@ -71,12 +77,20 @@ names = names_of (built commands)
 
 -- The first word is one of the names, or none of them.
 which : (word : Text) → ((c : Plain) × (word ≡ name_of c)) ⊎ (find (answers_to word) names ≡ None)
-which word = go (bytes_eq (codes "both") word) (bytes_eq (codes "decode") word) refl refl
+which word = go (is both) (is trace) (is decode) (is audit) refl refl refl refl
   where
-    go : (is_both is_decode : Bool) → bytes_eq (codes "both") word ≡ is_both → bytes_eq (codes "decode") word ≡ is_decode → ((c : Plain) × (word ≡ name_of c)) ⊎ (find (answers_to word) names ≡ None)
-    go true is_decode first second = inl (both, sym ((bytes_eq-Decides (codes "both") word).0 first))
-    go false true first second = inl (decode, sym ((bytes_eq-Decides (codes "decode") word).0 second))
-    go false false first second = inr (rw (first, second) refl)
+    is : Plain → Bool
+    is c = bytes_eq (name_of c) word
+
+    named : (c : Plain) → is c ≡ true → ((c : Plain) × (word ≡ name_of c)) ⊎ (find (answers_to word) names ≡ None)
+    named c holds = inl (c, sym ((bytes_eq-Decides (name_of c) word).0 holds))
+
+    go : (is_both is_trace is_decode is_audit : Bool) → is both ≡ is_both → is trace ≡ is_trace → is decode ≡ is_decode → is audit ≡ is_audit → ((c : Plain) × (word ≡ name_of c)) ⊎ (find (answers_to word) names ≡ None)
+    go true is_trace is_decode is_audit first second third fourth = named both first
+    go false true is_decode is_audit first second third fourth = named trace second
+    go false false true is_audit first second third fourth = named decode third
+    go false false false true first second third fourth = named audit fourth
+    go false false false false first second third fourth = inr (rw (first, second, third, fourth) refl)
 
 -- ---- words that are taken
 -- a command that takes nothing, as it is built
@@ -103,7 +117,9 @@ more_strays name word rest others plain enters none =
 more : (c : Plain) (word : Text) (rest : List Text) → is_flag word ≡ false → fault_of commands (name_of c ∷ word ∷ rest) ≡ [] → ⊥
 unfolding clap_on_literals
 more both word rest plain fault = more_strays (codes "both") word rest _ plain refl fault
+more trace word rest plain fault = more_strays (codes "trace") word rest _ plain refl fault
 more decode word rest plain fault = more_strays (codes "decode") word rest _ plain refl fault
+more audit word rest plain fault = more_strays (codes "audit") word rest _ plain refl fault
 
 -- The words after the name are none.
 alone : (c : Plain) (word : Text) (rest : List Text) → word ≡ name_of c → list_any is_flag rest ≡ false → fault_of commands (word ∷ rest) ≡ [] → word ∷ rest ≡ name_of c ∷ []
@@ -124,13 +140,17 @@ taken (word ∷ rest) plain fault =
 enters : (c : Plain) → option_map (λ p. p.0) (subcommand_of commands (name_of c ∷ [])) ≡ Some (name_of c)
 unfolding clap_on_literals
 enters both = refl
+enters trace = refl
 enters decode = refl
+enters audit = refl
 
 -- Such words are taken.
 takes_name : (c : Plain) → takes commands (name_of c ∷ []) ≡ true
 unfolding clap_on_literals
 takes_name both = refl
+takes_name trace = refl
 takes_name decode = refl
+takes_name audit = refl
 
 -- ---- words that are no flags
 
@@ -151,7 +171,9 @@ path_no_flag (byte ∷ word) good = not_true (byte == 45) good
 -- Words of a command have no flag among them.
 pub plain_words : (words : List Text) (c : Command) → HasShape words c → list_any is_flag words ≡ false
 plain_words words command.Both is = ap (λ ws. list_any is_flag ws) is
+plain_words words command.Trace is = ap (λ ws. list_any is_flag ws) is
 plain_words words command.Decode is = ap (λ ws. list_any is_flag ws) is
+plain_words words command.Audit is = ap (λ ws. list_any is_flag ws) is
 plain_words words (command.Load number) (is, within) =
     let above : 48 < get_or (decimal number) 0 0 = first_decimal number (omega (arith, within.0)) (omega (arith, within.1)) in
     ap (λ ws. list_any is_flag ws) is ∙ ap (λ (b : Bool). b || false) (digit_no_flag (decimal number) above)
@@ -188,7 +210,9 @@ met_word words name word meeting said = meeting.words_are ∙ ap (λ n. n ∷ []
 
 pub met_shape : (words : List Text) (name : Option Text) (r : Result Command Stop) → Meets words name → IfOk r (IsNameOf name) → IfOk r (HasShape words)
 met_shape words name (Ok command.Both) meeting said = met_word words name (codes "both") meeting said
+met_shape words name (Ok command.Trace) meeting said = met_word words name (codes "trace") meeting said
 met_shape words name (Ok command.Decode) meeting said = met_word words name (codes "decode") meeting said
+met_shape words name (Ok command.Audit) meeting said = met_word words name (codes "audit") meeting said
 met_shape words name (Ok (command.Load number)) meeting said = absurd said
 met_shape words name (Ok (command.Client path)) meeting said = absurd said
 met_shape words name (Ok (command.Host path)) meeting said = absurd said
@@ -196,7 +220,9 @@ met_shape words name (Err s) meeting said = tt
 
 named : (name : Option Text) (c : Plain) → name ≡ Some (name_of c) → IsNameOf name (command_of c)
 named name both is = is
+named name trace is = is
 named name decode is = is
+named name audit is = is
 
 pub met_none : (words : List Text) (name : Option Text) (r : Result Command Stop) → Meets words name → IfErr r (λ s. (s ≡ stop.Words) × ((c : Command) → ¬ (IsNameOf name c))) → IfErr r (StopsForWords words)
 met_none words name (Ok c) meeting said = tt
@@ -216,7 +242,9 @@ refused app words s is no_client no_host no_load passes (inl bad) = subst (λ s.
 
     none : (c : Command) → ¬ (HasShape words c)
     none command.Both shape = not_named both shape
+    none command.Trace shape = not_named trace shape
     none command.Decode shape = not_named decode shape
+    none command.Audit shape = not_named audit shape
     none (command.Load number) shape = no_load number shape
     none (command.Client path) shape = no_client path.now shape
     none (command.Host path) shape = no_host path.now shape

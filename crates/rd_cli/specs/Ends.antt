@@ -4,8 +4,9 @@ use Rattle.rd_base.specs.History.{History}
 use Rattle.rd_cli.specs.Outside.{Linked, Outside, Sharing}
 use Rattle.rd_cli.specs.Shapes.{HasShape}
 use Rattle.rd_cli.specs.Stops.{StopsWith}
-use Rattle.rd_cli.specs.Playing.{IsEndOfBoth}
+use Rattle.rd_cli.specs.Playing.{IsEndOfBoth, IsEndOfTrace}
 use Rattle.rd_cli.specs.Decoding.{IsEndOfDecode}
+use Rattle.rd_cli.specs.Auditing.{IsEndOfAudit}
 use Rattle.rd_cli.specs.Loading.{IsEndOfLoad}
 use Rattle.rd_cli.specs.Client.{IsEndOfClient}
 use Rattle.rd_cli.specs.Host.{IsEndOfHost}
@@ -13,12 +14,15 @@ use Rattle.rd_cli.specs.declared.words.Command.{Command}
 use Rattle.rd_cli.specs.declared.words.Command.TheVariants as command
 use Rattle.rd_cli.specs.declared.stop.Stop.TheVariants as stop
 
--- how each command ends with a status; but for `client` and `host` none uses the linker, and but for `client` none opens a folder; `decode`, `client` and `host` touch no recording, `decode` and `host` store no
--- journal, and `load` reads no input
+-- how each command ends with a status; but for `client` and `host` none uses the linker, and but for `client` none opens a folder; `decode`, `audit`, `client` and `host` touch no recording, `decode`, `audit` and
+-- `host` store no journal, and `load` reads no input
 abbrev pub EndsCommand : {S K R L D : Type 0} → Command → (before after : Outside S K R) → (linked linked_after : Linked L) → (sharing sharing_after : Sharing D) → List (ℕ × History) → ℕ → Type 0
 EndsCommand command.Both before after linked linked_after sharing sharing_after books status = IsEndOfBoth before after books status × (linked_after ≡ linked) × (sharing_after ≡ sharing)
+EndsCommand command.Trace before after linked linked_after sharing sharing_after books status = IsEndOfTrace before after books status × (linked_after ≡ linked) × (sharing_after ≡ sharing)
 EndsCommand command.Decode before after linked linked_after sharing sharing_after books status =
     IsEndOfDecode before.input after.input before.output after.output status × (after.recording ≡ before.recording) × (books ≡ []) × (linked_after ≡ linked) × (sharing_after ≡ sharing)
+EndsCommand command.Audit before after linked linked_after sharing sharing_after books status =
+    IsEndOfAudit before.input after.input before.output after.output status × (after.recording ≡ before.recording) × (books ≡ []) × (linked_after ≡ linked) × (sharing_after ≡ sharing)
 EndsCommand (command.Load number) before after linked linked_after sharing sharing_after books status =
     IsEndOfLoad number before.output after.output before.recording after.recording books status × (after.input ≡ before.input) × (linked_after ≡ linked) × (sharing_after ≡ sharing)
 EndsCommand (command.Client path) before after linked linked_after sharing sharing_after books status =

@@ -9,6 +9,7 @@ pub mod Summary
 pub mod Worked
 pub mod Loading
 pub mod Decoding
+pub mod Auditing
 pub mod Serving
 pub mod Client
 pub mod Host

@@ -7,7 +7,9 @@ use Rattle.rd_cli.specs.declared.words.Command.TheVariants as command
 -- the name is this command's, where it is one word
 abbrev pub IsNameOf : Option (List ℕ) → Command → Type 0
 IsNameOf name command.Both = name ≡ Some (codes "both")
+IsNameOf name command.Trace = name ≡ Some (codes "trace")
 IsNameOf name command.Decode = name ≡ Some (codes "decode")
+IsNameOf name command.Audit = name ≡ Some (codes "audit")
 IsNameOf name (command.Load number) = ⊥
 IsNameOf name (command.Client path) = ⊥
 IsNameOf name (command.Host path) = ⊥
@@ -24,4 +26,4 @@ with_command app name = with_subcommand app (new_app name).top
 
 -- each command of one word
 abbrev pub commands : App
-commands = with_command (with_command no_command (codes "both")) (codes "decode")
+commands = with_command (with_command (with_command (with_command no_command (codes "both")) (codes "trace")) (codes "decode")) (codes "audit")

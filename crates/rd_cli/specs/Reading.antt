@@ -19,6 +19,11 @@ pub record ReadsScript {S : Type 0} (m : Mode) (before after : Stream S) (script
   pub read : ReadToEnd before after text
   pub script_is : script_of m text ≡ Ok script
 
+-- The input was read to its end: it is this text, which is a script of this mode.
+pub record ReadsText {S : Type 0} (m : Mode) (before after : Stream S) (text : List ℕ) (script : Script) : Type 0 where
+  pub read : ReadToEnd before after text
+  pub script_is : script_of m text ≡ Ok script
+
 -- This line of what was read is the first that is refused in this mode, for this reason.
 abbrev pub ReadsBadLine : {S : Type 0} → Mode → (before after : Stream S) → BadLine → Type 0
 ReadsBadLine m before after bad = (text : List ℕ) × HasRead before after text × (script_of m text ≡ Err bad)

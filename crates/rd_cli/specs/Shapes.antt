@@ -36,7 +36,9 @@ FindsAt name words None = (path : List ℕ) → ¬ (IsAt name words path)
 -- the words are this command
 abbrev pub HasShape : List (List ℕ) → Command → Type 0
 HasShape words command.Both = words ≡ codes "both" ∷ []
+HasShape words command.Trace = words ≡ codes "trace" ∷ []
 HasShape words command.Decode = words ≡ codes "decode" ∷ []
+HasShape words command.Audit = words ≡ codes "audit" ∷ []
 HasShape words (command.Load number) = (words ≡ codes "load" ∷ decimal number ∷ []) × IsLoadNumber number
 HasShape words (command.Client path) = IsAt (codes "client") words path.now
 HasShape words (command.Host path) = IsAt (codes "host") words path.now

@@ -1,5 +1,9 @@
 -- What a stop is answered with: a status, and a last line on the output.
 use Rattle.std.specs.Prelude.{◌≡◌, ℕ, ◌⊎◌, List, ◌++◌, Option, Some, None, Result, Ok, Err, codes, decimal}
+use Rattle.rd_audit.specs.declared.verdict.AuditWhy.{AuditWhy}
+use Rattle.rd_audit.specs.declared.verdict.AuditWhy.TheVariants as audit
+use Rattle.rd_audit.specs.declared.verdict.Verdict.{Verdict}
+use Rattle.rd_audit.specs.declared.verdict.Verdict.TheVariants as verdict
 use Rattle.rd_base.specs.declared.bad.Why.{Why}
 use Rattle.rd_base.specs.declared.bad.Why.TheVariants as field
 use Rattle.rd_carry.specs.declared.ended.EndWhy.{EndWhy}
@@ -38,6 +42,7 @@ status_of stop.Link = 5
 status_of stop.Memory = 6
 status_of stop.Long = 7
 status_of stop.Folder = 8
+status_of (stop.No found) = 9
 
 -- the word for what is wrong with a field
 abbrev pub field_word : Why → List ℕ
@@ -108,7 +113,22 @@ line_word why.Many = codes "many"
 abbrev pub refused_line : ℕ → LineWhy → List ℕ
 refused_line line cause = codes "line " ++ decimal line ++ codes " " ++ line_word cause ++ codes "\n"
 
--- the line for a recording, or a channel, past the limit
+-- the word for why a completion doesn't belong
+abbrev pub audit_word : AuditWhy → List ℕ
+audit_word audit.Stray = codes "stray"
+audit_word audit.Answer = codes "answer"
+audit_word audit.Order = codes "order"
+audit_word audit.Direct = codes "direct"
+
+-- the line for what was found of an audit file
+abbrev pub verdict_line : Verdict → List ℕ
+verdict_line verdict.Yes = codes "yes\n"
+verdict_line (verdict.Item device item clause) = codes "no journal " ++ decimal device ++ codes " item " ++ decimal item ++ codes " clause " ++ decimal clause ++ codes "\n"
+verdict_line (verdict.Mark device item) = codes "no journal " ++ decimal device ++ codes " item " ++ decimal item ++ codes " mark\n"
+verdict_line (verdict.Entry entry why) = codes "no entry " ++ decimal entry ++ codes " " ++ audit_word why ++ codes "\n"
+verdict_line (verdict.Open channel) = codes "no channel " ++ decimal channel ++ codes " open\n"
+
+-- the line for a recording, a channel or an audit file past the limit
 abbrev pub long_line : List ℕ
 long_line = codes "long\n"
 
@@ -119,6 +139,7 @@ last_line (stop.Line line cause) = Some (refused_line line cause)
 last_line (stop.Fault fault) = Some (fault_line fault)
 last_line (stop.Channel channel at message cause) = Some (channel_line channel at message cause)
 last_line stop.Long = Some long_line
+last_line (stop.No found) = Some (verdict_line found)
 last_line _ = None
 
 -- A line was written, or the first fault ended that.

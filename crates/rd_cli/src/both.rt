@@ -1,8 +1,9 @@
 //! The command `both`: a script, read whole, is played by both ends of one session.
 
 ghost use Rattle.std.specs.Prelude.{◌≡◌, []};
+ghost use Rattle.rd_cli.specs.Headline.{report_printed};
 ghost use Rattle.rd_cli.specs.Outside.{outside, stream};
-ghost use Rattle.rd_cli.specs.Playing.{ComesOutOfBoth, IsEndOfBoth};
+ghost use Rattle.rd_cli.specs.Playing.{ComesOut, IsEndOfBoth};
 ghost use Rattle.rd_cli.specs.Stops.{Prints};
 ghost use Rattle.rd_script.specs.Report.{AreCountable, report_of};
 
@@ -45,7 +46,7 @@ fn report_script<S: Source, K: Sink, R: Sink, N: Sink>(
     books: &mut Books,
 ) -> Result<(), Stop>
     requires { books.old ≡ [] }
-    ensures { ComesOutOfBoth
+    ensures { ComesOut report_printed
         (outside S.left S.faults K.held K.faults R.held R.faults input.old output.old recording.old)
         (outside S.left S.faults K.held K.faults R.held R.faults input.new output.new recording.new) books.new result }
 {

@@ -2,9 +2,10 @@
 
 ghost use Rattle.std.specs.Prelude.{◌≡◌, IfOk, IsErr, IsSome, option_map, string_bytes};
 ghost use Rattle.rd_cli.specs.Outside.{stream};
-ghost use Rattle.rd_cli.specs.Stops.{StopsWith, channel_line, chunk_word, end_word, fault_line, field_word, in_message, last_line, line_word, message_word, refused_line, why_word};
+ghost use Rattle.rd_cli.specs.Stops.{StopsWith, audit_word, channel_line, chunk_word, end_word, fault_line, field_word, in_message, last_line, line_word, message_word, refused_line, verdict_line, why_word};
 
 use crate::stop::Stop;
+use rd_audit::{AuditWhy, Verdict};
 use rd_base::{Sink, Why, write_all};
 use rd_carry::EndWhy;
 use rd_chunk::ChunkWhy;
@@ -43,6 +44,7 @@ pub fn last_line(alloc: Global, stop: &Stop) -> Result<Option<String>, AllocErro
             message,
             why,
         } => Ok(Some(channel_line(alloc, *channel, *at, *message, *why)?)),
+        Stop::No(verdict) => Ok(Some(verdict_line(alloc, *verdict)?)),
         Stop::Input | Stop::Output | Stop::Recording | Stop::Link | Stop::Folder | Stop::Memory =>
             Ok(None),
     }
@@ -88,6 +90,40 @@ fn why_word(why: FaultWhy) -> &'static str
         FaultWhy::Chunk(why) => chunk_word(why),
         FaultWhy::Field(why) => field_word(why),
         FaultWhy::Stray => "Stray",
+    }
+}
+
+/// The line for what was found of an audit file.
+fn verdict_line(alloc: Global, verdict: Verdict) -> Result<String, AllocError>
+    ensures { IfOk result (λ line. string_bytes line ≡ verdict_line verdict) }
+{
+    match verdict {
+        Verdict::Yes => String::from_str(alloc, "yes\n"),
+        Verdict::Item {
+            device,
+            item,
+            clause,
+        } => format!(in alloc; "no journal {device} item {item} clause {clause}\n"),
+        Verdict::Mark { device, item } => {
+            format!(in alloc; "no journal {device} item {item} mark\n")
+        }
+        Verdict::Entry { entry, why } => {
+            let word = audit_word(why);
+            format!(in alloc; "no entry {entry} {word}\n")
+        }
+        Verdict::Open { channel } => format!(in alloc; "no channel {channel} open\n"),
+    }
+}
+
+/// The word for why a completion doesn't belong.
+fn audit_word(why: AuditWhy) -> &'static str
+    ensures { result.now ≡ audit_word why }
+{
+    match why {
+        AuditWhy::Stray => "stray",
+        AuditWhy::Answer => "answer",
+        AuditWhy::Order => "order",
+        AuditWhy::Direct => "direct",
     }
 }
 

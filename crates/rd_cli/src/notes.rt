@@ -15,6 +15,8 @@ const USAGE: &str = "\
 rdr: both ends of Remote Desktop drive redirection
 usage: rdr both < SCRIPT
          plays the script of the standard input, prints a report, and leaves the frames in rdr.rec (docs/SCRIPT.md)
+       rdr trace < SCRIPT > AUDIT
+         does the same, but prints an audit file in the report's place: the script, the devices' journals and the frames (docs/RECORDING.md)
        rdr load N
          plays a session with N blocks in each of four files, N from 1 to 1000, prints what came of it in one line, and leaves the frames in
          rdr.rec
@@ -25,6 +27,8 @@ usage: rdr both < SCRIPT
          plays a host's script over the channels that are dialed at the socket PATH, where it listens, and prints what came of each line
        rdr decode < RECORDING
          prints a line for each message of a recording, and names the first fault (docs/RECORDING.md)
+       rdr audit < AUDIT
+         prints yes where the frames of an audit file belong to its journals and these to its script, and else the first thing that doesn't
 ";
 
 /// Says how the command is used.

@@ -4,6 +4,7 @@ ghost use Rattle.std.specs.Prelude.{◌≡◌};
 ghost use Rattle.rd_cli.specs.Stops.{early_stop};
 ghost use Rattle.rd_cli.specs.declared.stop.Stop.TheVariants as stop;
 
+use rd_audit::Verdict;
 use rd_carry::EndWhy;
 use rd_decode::Fault;
 use rd_script::LineWhy;
@@ -25,7 +26,7 @@ pub enum Stop {
     Output,
     /// A write to the recording failed.
     Recording,
-    /// This is the first fault of the recording that was to be printed.
+    /// This is the first fault of the recording that was to be printed, or of the audit file.
     Fault(Fault),
     /// What the other side sent on a channel is wrong. The fields are those of `Ended::Channel`.
     Channel {
@@ -36,10 +37,12 @@ pub enum Stop {
     },
     /// A channel couldn't be had, or failed.
     Link,
-    /// The recording, or what came on a channel, has 2^40 bytes or more.
+    /// The recording, or what came on a channel, has 2^40 bytes or more, or the audit file more than 2^30.
     Long,
     /// A folder of a client's script couldn't be opened.
     Folder,
+    /// This was found of an audit file, of which not all belongs together.
+    No(Verdict),
     Memory,
 }
 
@@ -59,6 +62,7 @@ impl Stop {
             Stop::Memory => 6,
             Stop::Long => 7,
             Stop::Folder => 8,
+            Stop::No(_) => 9,
         }
     }
 }

@@ -5,7 +5,7 @@ ghost use Rattle.std.specs.List.{list_any};
 ghost use Rattle.clap.specs.Words.{app_of};
 ghost use Rattle.rd_cli.specs.Shapes.{FindsAt, FindsLoad, FindsLoadNumber, HasShape, IsAt, StopsForWords, is_flag, is_path};
 ghost use Rattle.rd_cli.specs.declared.words.Command.{Command};
-ghost use Rattle.rd_cli.specs.Parser.{IsNameOf, commands};
+ghost use Rattle.rd_cli.specs.Parser.{IsNameOf, commands, with_command};
 
 use crate::stop::Stop;
 use clap::Command as Parser;
@@ -19,7 +19,9 @@ const MAX_LOAD: u32 = 1000;
 #[derive(Clone, Copy, Debug, PartialEq, Eq)]
 pub enum Command<'a> {
     Both,
+    Trace,
     Decode,
+    Audit,
     /// The load of this number, which is from 1 to 1000.
     Load(u32),
     /// The client of the host that listens at this path.
@@ -184,9 +186,21 @@ fn parser<'a>(alloc: Global) -> Result<Parser<'a>, AllocError>
         .disable_help_flag(true)
         .disable_help_subcommand(true)
         .subcommand_required(true);
-    let both = Parser::new(alloc, "both");
-    let decode = Parser::new(alloc, "decode");
-    none.subcommand(both)?.subcommand(decode)
+    let both = with_command(alloc, none, "both")?;
+    let trace = with_command(alloc, both, "trace")?;
+    let decode = with_command(alloc, trace, "decode")?;
+    with_command(alloc, decode, "audit")
+}
+
+/// The parser with one more command.
+fn with_command<'a>(
+    alloc: Global,
+    parser: Parser<'a>,
+    name: &'a str,
+) -> Result<Parser<'a>, AllocError>
+    ensures { IfOk result (λ more. app_of more ≡ with_command (app_of parser.entry) name.now) }
+{
+    parser.subcommand(Parser::new(alloc, name))
 }
 
 /// The command with this name.
@@ -196,7 +210,9 @@ fn named<'a>(name: Option<&str>) -> Result<Command<'a>, Stop>
 {
     match name {
         Some("both") => Ok(Command::Both),
+        Some("trace") => Ok(Command::Trace),
         Some("decode") => Ok(Command::Decode),
+        Some("audit") => Ok(Command::Audit),
         _ => Err(Stop::Words),
     }
 }

@@ -144,8 +144,10 @@ fn ends_where_the_outside_fails(rt: HostRuntime) -> Result<(), Fail> {
         ((Kind::Recording, 1), 3, 0),
     ] {
         let prefix = recording.get(..recorded).unwrap_or_default();
-        let wanted = (status, b"".as_slice(), prefix);
-        ends(&rt, &["both"], SCRIPT, &[fails], wanted)?;
+        for word in ["both", "trace"] {
+            let wanted = (status, b"".as_slice(), prefix);
+            ends(&rt, &[word], SCRIPT, &[fails], wanted)?;
+        }
     }
     Ok(())
 }
@@ -311,6 +313,9 @@ fn knows_each_command_by_its_words(rt: HostRuntime) -> Result<(), Fail> {
         &["Both"],
         &["both", "both"],
         &["both", "decode"],
+        &["trace", "both"],
+        &["audit", "trace"],
+        &["trace", "-"],
         &["decode", ""],
         &["help"],
         &["help", "both"],

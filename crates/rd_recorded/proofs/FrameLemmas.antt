@@ -9,12 +9,12 @@ use Rattle.rd_chunk.proofs.HeadLemmas.{length_of-append}
 use Rattle.rd_decode.specs.declared.side.Side.{Side}
 use Rattle.rd_decode.specs.declared.fault.LineNo.{LineNo}
 use Rattle.rd_recorded.specs.Channels.{Open}
-use Rattle.rd_recorded.specs.Entries.{Next, after_data, after_frame, frame_entry, under_way}
-use Rattle.rd_recorded.specs.Kept.{TakesEntry}
+use Rattle.rd_recorded.specs.Entries.{NextHeard, heard_data, heard_frame, frame_heard, open_under_way}
+use Rattle.rd_recorded.specs.Kept.{HearsEntry}
 
 -- a frame that is all there, of which no row of the table holds
-pub whole_frame : (number : ℕ) (side : Side) (o : Open) (bytes : List ℕ) → size_fault (size_of bytes) ≡ None → head_fault (under_way side o).whole (length (under_way side o).joined) bytes ≡ None → 12 ≤ length bytes → size_of bytes + 4 ≤ length bytes
-    → frame_entry number side o bytes ≡ after_frame number side o (take (size_of bytes + 4) bytes)
+pub whole_frame : (number : ℕ) (side : Side) (o : Open) (bytes : List ℕ) → size_fault (size_of bytes) ≡ None → head_fault (open_under_way side o).whole (length (open_under_way side o).joined) bytes ≡ None → 12 ≤ length bytes → size_of bytes + 4 ≤ length bytes
+    → frame_heard number side o bytes ≡ heard_frame number side o (take (size_of bytes + 4) bytes)
 whole_frame number side o bytes size head twelve all =
     let four : nat_lt (length bytes) 4 ≡ false = le-ltb (length bytes) 4 (omega (arith, twelve)) in
     let there : nat_lt (length bytes) 12 ≡ false = le-ltb (length bytes) 12 twelve in
@@ -23,7 +23,7 @@ whole_frame number side o bytes size head twelve all =
 
 -- its data
 pub frame_data : (number : ℕ) (side : Side) (o : Open) (bytes : List ℕ) (n : ℕ) → 12 ≤ n → n ≤ length bytes
-    → after_frame number side o (take n bytes) ≡ after_data (13 + length (take (n - 12) (drop 12 bytes))) number side o (length_of bytes) (take (n - 12) (drop 12 bytes))
+    → heard_frame number side o (take n bytes) ≡ heard_data (13 + length (take (n - 12) (drop 12 bytes))) number side o (length_of bytes) (take (n - 12) (drop 12 bytes))
 frame_data number side o bytes n twelve all =
     let len : length (take n bytes) ≡ n = length-take-le n bytes all in
     let n_is : 12 + (n - 12) ≡ n = omega (arith, twelve) in
@@ -35,5 +35,5 @@ frame_data number side o bytes n twelve all =
     rw (whole, part, size) refl
 
 -- what takes an entry takes that which it is
-pub takes_same : {S : Type 0} (next other : Next S) (new : S) (result : Result (Option ℕ) LineNo) → next ≡ other → TakesEntry other new result → TakesEntry next new result
-takes_same {S} next other new result same takes = subst (λ (x : Next S). TakesEntry x new result) (sym same) takes
+pub takes_same : {S : Type 0} (next other : NextHeard S) (new : S) (result : Result (Option ℕ) LineNo) → next ≡ other → HearsEntry other new result → HearsEntry next new result
+takes_same {S} next other new result same takes = subst (λ (x : NextHeard S). HearsEntry x new result) (sym same) takes

@@ -30,7 +30,7 @@ use Rattle.rd_decode.specs.Lines.{may_send}
 use Rattle.rd_decode.specs.Messages.{in_frame, plain_tail, unless_bad}
 use Rattle.rd_recorded.specs.Channels.{Open, announces, completes, removes}
 use Rattle.rd_recorded.specs.Kept.{Hears}
-use Rattle.rd_recorded.specs.Messages.{completed, heard, heard_completion, heard_list, heard_of, heard_packet, heard_removal, heard_sent, kind_at, saying}
+use Rattle.rd_recorded.specs.Messages.{with_completion, message_heard, heard_completion, heard_list, heard_of, heard_packet, heard_removal, heard_sent, asked_kind, saying}
 
 -- what a reader read
 layout_met : {A : Type 0} (l : Layout A) (bytes message : List ℕ) (a : A) (count : ℕ) → bytes ≡ message → WithTail count (λ tail. Spells l a tail bytes) → (p : Position) × (met l (at_start message) ≡ Ok (a, p))
@@ -66,22 +66,22 @@ none_changes {K} d c [] awaited none is = λ i. λ x y. (same x y (d == x) refl 
 none_changes d c (index ∷ others) awaited none is = absurd cc
 
 -- how the body of the completion of a request reads
-body_at : (bytes message : List ℕ) (o : Open) (status : Status) (index k : ℕ) (kind : Kind) (r : Result ℕ Bad) → bytes ≡ message → kind ≡ kind_at index o.requests → k ≡ index → tail_of (completion_body kind status) (drop 16 bytes) ≡ r
-    → tail_of (completion_body (kind_at k o.requests) status) (drop 16 message) ≡ r
+body_at : (bytes message : List ℕ) (o : Open) (status : Status) (index k : ℕ) (kind : Kind) (r : Result ℕ Bad) → bytes ≡ message → kind ≡ asked_kind index o.requests → k ≡ index → tail_of (completion_body kind status) (drop 16 bytes) ≡ r
+    → tail_of (completion_body (asked_kind k o.requests) status) (drop 16 message) ≡ r
 body_at bytes message o status index k kind r same is at e =
-    ap (λ (n : ℕ). tail_of (completion_body (kind_at n o.requests) status) (drop 16 message)) at ∙ ap (λ (x : Kind). tail_of (completion_body x status) (drop 16 message)) (sym is) ∙ ap (λ (xs : List ℕ). tail_of (completion_body kind status) (drop 16 xs)) (sym same) ∙ e
+    ap (λ (n : ℕ). tail_of (completion_body (asked_kind n o.requests) status) (drop 16 message)) at ∙ ap (λ (x : Kind). tail_of (completion_body x status) (drop 16 message)) (sym is) ∙ ap (λ (xs : List ℕ). tail_of (completion_body kind status) (drop 16 xs)) (sym same) ∙ e
 
 -- the first request of its pair says so
-pub completion_heard : (entry : ℕ) (bytes message : List ℕ) (o : Open) (head : Head) (queue : List ℕ) (index tail : ℕ) (kind : Kind) → bytes ≡ message → kind ≡ kind_at index o.requests → Some index ≡ first_awaited queue
+pub completion_heard : (entry : ℕ) (bytes message : List ℕ) (o : Open) (head : Head) (queue : List ℕ) (index tail : ℕ) (kind : Kind) → bytes ≡ message → kind ≡ asked_kind index o.requests → Some index ≡ first_awaited queue
     → tail_of (completion_body kind head.status) (drop 16 bytes) ≡ Ok tail
     → heard_of entry message head o queue ≡ Ok (saying entry (completes (Some index) message) (record o
-    { requests = completed index (length o.sayings) o.requests; awaited = with_awaited head.device head.completion (others_of queue) o.awaited }))
+    { requests = with_completion index (length o.sayings) o.requests; awaited = with_awaited head.device head.completion (others_of queue) o.awaited }))
 completion_heard entry bytes message o head [] index tail kind same is first e = absurd cc
 completion_heard entry bytes message o head (k ∷ others) index tail kind same is first e =
     let at : k ≡ index = cc in
-    rw (body_at bytes message o head.status index k kind (Ok tail) same is at e) (ap (λ (n : ℕ). Ok (saying entry (completes (Some n) message) (record o { requests = completed n (length o.sayings) o.requests; awaited = with_awaited head.device head.completion others o.awaited }))) at)
+    rw (body_at bytes message o head.status index k kind (Ok tail) same is at e) (ap (λ (n : ℕ). Ok (saying entry (completes (Some n) message) (record o { requests = with_completion n (length o.sayings) o.requests; awaited = with_awaited head.device head.completion others o.awaited }))) at)
 
-pub completion_fails : (entry : ℕ) (bytes message : List ℕ) (o : Open) (head : Head) (queue : List ℕ) (index : ℕ) (kind : Kind) (bad : Bad) → bytes ≡ message → kind ≡ kind_at index o.requests → Some index ≡ first_awaited queue
+pub completion_fails : (entry : ℕ) (bytes message : List ℕ) (o : Open) (head : Head) (queue : List ℕ) (index : ℕ) (kind : Kind) (bad : Bad) → bytes ≡ message → kind ≡ asked_kind index o.requests → Some index ≡ first_awaited queue
     → tail_of (completion_body kind head.status) (drop 16 bytes) ≡ Err bad → heard_of entry message head o queue ≡ in_frame (fault.Field bad.why)
 completion_fails entry bytes message o head [] index kind bad same is first e = absurd cc
 completion_fails entry bytes message o head (k ∷ others) index kind bad same is first e =
@@ -95,16 +95,16 @@ hears_fault r new (Err f) bad is e = subst (λ (n : LineNo). Hears r new (Err n)
 
 -- ---- messages
 -- a message whose header reads
-header_heard : (entry : ℕ) (side : Side) (message : List ℕ) (o : Open) (p : Packet) (tail : ℕ) → SpellsHeader p tail message → heard entry side message o ≡ heard_sent entry side message o (Some p)
+header_heard : (entry : ℕ) (side : Side) (message : List ℕ) (o : Open) (p : Packet) (tail : ℕ) → SpellsHeader p tail message → message_heard entry side message o ≡ heard_sent entry side message o (Some p)
 header_heard entry side message o p tail s = let m = meets (header p) 0 message tt tail s in rw (named_back p (at_start message) m.0 m.1) refl
 
 -- a packet that this side sends
-pub sent_heard : (entry : ℕ) (side : Side) (bytes message : List ℕ) (o : Open) (p : Packet) (tail : ℕ) → bytes ≡ message → SpellsHeader p tail bytes → may_send side p ≡ true → heard entry side message o ≡ heard_packet p entry message o
-sent_heard entry side bytes message o p tail same s is = subst (λ (xs : List ℕ). heard entry side xs o ≡ heard_packet p entry xs o) same (header_heard entry side bytes o p tail s ∙ rw is refl)
+pub sent_heard : (entry : ℕ) (side : Side) (bytes message : List ℕ) (o : Open) (p : Packet) (tail : ℕ) → bytes ≡ message → SpellsHeader p tail bytes → may_send side p ≡ true → message_heard entry side message o ≡ heard_packet p entry message o
+sent_heard entry side bytes message o p tail same s is = subst (λ (xs : List ℕ). message_heard entry side xs o ≡ heard_packet p entry xs o) same (header_heard entry side bytes o p tail s ∙ rw is refl)
 
 -- and one that it doesn't
-pub not_sent_heard : (entry : ℕ) (side : Side) (bytes message : List ℕ) (o : Open) (p : Packet) (tail : ℕ) → bytes ≡ message → SpellsHeader p tail bytes → may_send side p ≡ false → heard entry side message o ≡ Err (record { offset = 0; why = fault.Field why.Value })
-not_sent_heard entry side bytes message o p tail same s is = subst (λ (xs : List ℕ). heard entry side xs o ≡ Err (record { offset = 0; why = fault.Field why.Value })) same (header_heard entry side bytes o p tail s ∙ rw is refl)
+pub not_sent_heard : (entry : ℕ) (side : Side) (bytes message : List ℕ) (o : Open) (p : Packet) (tail : ℕ) → bytes ≡ message → SpellsHeader p tail bytes → may_send side p ≡ false → message_heard entry side message o ≡ Err (record { offset = 0; why = fault.Field why.Value })
+not_sent_heard entry side bytes message o p tail same s is = subst (λ (xs : List ℕ). message_heard entry side xs o ≡ Err (record { offset = 0; why = fault.Field why.Value })) same (header_heard entry side bytes o p tail s ∙ rw is refl)
 
 -- a packet that says nothing of requests or devices
 pub plain_heard : (p : Packet) (entry : ℕ) (message : List ℕ) (o : Open) → p ≢ packet.IoRequest → p ≢ packet.IoCompletion → p ≢ packet.DeviceListAnnounce → p ≢ packet.DeviceListRemove

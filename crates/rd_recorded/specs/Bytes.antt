@@ -3,6 +3,6 @@ use Rattle.std.specs.Prelude.{ℕ, List}
 use Rattle.rd_recorded.specs.declared.message.Held.{Held}
 use Rattle.rd_recorded.specs.declared.message.Held.TheVariants.{Lent, Joined}
 
-abbrev pub bytes_of : Held → List ℕ
-bytes_of (Lent bytes) = bytes.now
-bytes_of (Joined bytes) = bytes
+abbrev pub held_bytes : Held → List ℕ
+held_bytes (Lent bytes) = bytes.now
+held_bytes (Joined bytes) = bytes

@@ -5,7 +5,7 @@ use Rattle.rd_decode.specs.Awaited.{AwaitedOf, none_awaited}
 use Rattle.rd_decode.specs.Entries.{UnderWay, nothing_under_way}
 
 -- a request: the entry of the recording that ended it, counted from 1, and, where it has a completion, the place of that among what the client says
-pub record Asked : Type 0 where
+pub record HeardRequest : Type 0 where
   pub entry : ℕ
   pub device : ℕ
   pub kind : Kind
@@ -13,18 +13,18 @@ pub record Asked : Type 0 where
   pub completion : Option ℕ
 
 -- what the client says: that devices are there, or gone; or it completes the request with this index, or none
-pub data Said : Type 0 where
-  announces removes : List ℕ → Said
-  completes : Option ℕ → List ℕ → Said
+pub data ClientSaid : Type 0 where
+  announces removes : List ℕ → ClientSaid
+  completes : Option ℕ → List ℕ → ClientSaid
 
 -- the same, with the entry that ended its message
 pub record Saying : Type 0 where
   pub entry : ℕ
-  pub said : Said
+  pub said : ClientSaid
 
 -- a channel, and whether it ended
-pub record Channel : Type 0 where
-  pub requests : List Asked
+pub record HeardChannel : Type 0 where
+  pub requests : List HeardRequest
   pub sayings : List Saying
   pub ended : Bool
 
@@ -32,14 +32,14 @@ pub record Channel : Type 0 where
 pub record Open : Type 0 where
   pub host : UnderWay
   pub client : UnderWay
-  pub requests : List Asked
+  pub requests : List HeardRequest
   pub sayings : List Saying
   pub awaited : AwaitedOf ℕ
 
 -- a channel that begins
-abbrev pub fresh : Open
-fresh = record { host = nothing_under_way; client = nothing_under_way; requests = []; sayings = []; awaited = none_awaited }
+abbrev pub fresh_open : Open
+fresh_open = record { host = nothing_under_way; client = nothing_under_way; requests = []; sayings = []; awaited = none_awaited }
 
 -- the channel, once nothing more is heard on it
-abbrev pub closed : Bool → Open → Channel
+abbrev pub closed : Bool → Open → HeardChannel
 closed ended o = record { requests = o.requests; sayings = o.sayings; ended = ended }

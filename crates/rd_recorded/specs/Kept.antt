@@ -9,10 +9,10 @@ use Rattle.rd_recorded.specs.declared.no.RecordingNo.TheVariants as no
 use Rattle.rd_decode.specs.Kept.{awaited_of}
 use Rattle.rd_recorded.specs.declared.hearing.Hearing.{Hearing as Kept}
 use Rattle.rd_recorded.specs.declared.open_channel.OpenChannel.{OpenChannel}
-use Rattle.rd_recorded.specs.Channels.{Channel, Open}
+use Rattle.rd_recorded.specs.Channels.{HeardChannel, Open}
 use Rattle.rd_decode.specs.declared.side.Side.{Side}
 use Rattle.rd_decode.specs.Entries.{UnderWay, nothing_under_way}
-use Rattle.rd_recorded.specs.Entries.{Hearing, Next, cut, entry, under_way, with_under_way, wrong}
+use Rattle.rd_recorded.specs.Entries.{Hearing, NextHeard, cut, entry, open_under_way, open_with, wrong}
 
 -- the channel that is open, and what was heard so far
 abbrev pub open_of : OpenChannel → Open
@@ -28,22 +28,22 @@ Hears r new (Ok u) = r ≡ Ok new
 Hears r new (Err (line_no.Bad f)) = r ≡ Err f
 
 -- An entry of so many bytes was taken; or it isn't all there; or it has a fault; or memory ran out.
-abbrev pub TakesEntry : {S : Type 0} → Next S → S → Result (Option ℕ) LineNo → Type 0
-TakesEntry next new (Err line_no.Memory) = Unit {0}
-TakesEntry next new (Ok None) = next ≡ cut
-TakesEntry next new (Ok (Some size)) = next ≡ entry size new
-TakesEntry next new (Err (line_no.Bad f)) = next ≡ wrong f.offset f.why
+abbrev pub HearsEntry : {S : Type 0} → NextHeard S → S → Result (Option ℕ) LineNo → Type 0
+HearsEntry next new (Err line_no.Memory) = Unit {0}
+HearsEntry next new (Ok None) = next ≡ cut
+HearsEntry next new (Ok (Some size)) = next ≡ entry size new
+HearsEntry next new (Err (line_no.Bad f)) = next ≡ wrong f.offset f.why
 
 -- A part of a message of so many bytes came to what a side has under way: the message is whole and is this, or it isn't.
-abbrev pub Joins : ℕ → List ℕ → UnderWay → UnderWay → Option (List ℕ) → Type 0
-Joins whole part old new (Some message) = ((length (old.joined ++ part) == whole) ≡ true) × (message ≡ old.joined ++ part) × (new ≡ nothing_under_way)
-Joins whole part old new None = ((length (old.joined ++ part) == whole) ≡ false) × (new ≡ record { whole = whole; joined = old.joined ++ part })
+abbrev pub JoinsPart : ℕ → List ℕ → UnderWay → UnderWay → Option (List ℕ) → Type 0
+JoinsPart whole part old new (Some message) = ((length (old.joined ++ part) == whole) ≡ true) × (message ≡ old.joined ++ part) × (new ≡ nothing_under_way)
+JoinsPart whole part old new None = ((length (old.joined ++ part) == whole) ≡ false) × (new ≡ record { whole = whole; joined = old.joined ++ part })
 
 -- the same on a channel
 abbrev pub JoinsOn : Side → ℕ → List ℕ → Open → Open → Option (List ℕ) → Type 0
-JoinsOn side whole part old new message = (u : UnderWay) × (new ≡ with_under_way side u old) × Joins whole part (under_way side old) u message
+JoinsOn side whole part old new message = (u : UnderWay) × (new ≡ open_with side u old) × JoinsPart whole part (open_under_way side old) u message
 
 -- A recording has a fault; or memory ran out.
-abbrev pub RefusedFor : Result (List Channel) Fault → RecordingNo → Type 0
+abbrev pub RefusedFor : Result (List HeardChannel) Fault → RecordingNo → Type 0
 RefusedFor r no.Memory = Unit {0}
 RefusedFor r (no.Bad f) = r ≡ Err f

@@ -22,34 +22,34 @@ use Rattle.rd_decode.specs.declared.fault.EntryFault.{EntryFault}
 use Rattle.rd_decode.specs.Awaited.{with_awaited}
 use Rattle.rd_decode.specs.Lines.{may_send}
 use Rattle.rd_decode.specs.Messages.{in_frame, plain_tail, unless_bad}
-use Rattle.rd_recorded.specs.Channels.{Asked, Open, Said, announces, completes, removes}
+use Rattle.rd_recorded.specs.Channels.{HeardRequest, Open, ClientSaid, announces, completes, removes}
 
 -- the client says something more
-abbrev pub saying : ℕ → Said → Open → Open
+abbrev pub saying : ℕ → ClientSaid → Open → Open
 saying entry said o = record o { sayings = o.sayings ++ record { entry = entry; said = said } ∷ [] }
 
 -- A request. From now on its completion is still to come.
 abbrev pub heard_request : ℕ → List ℕ → Open → Result Open EntryFault
 heard_request entry message o = unless_bad (measure_of message) (λ read.
     let head = read.0 in
-    let asked : Asked = record { entry = entry; device = head.device; kind = kind_of_major head.major; message = message; completion = None } in
+    let asked : HeardRequest = record { entry = entry; device = head.device; kind = kind_of_major head.major; message = message; completion = None } in
     let queue = o.awaited head.device head.completion ++ length o.requests ∷ [] in
     Ok (record o { requests = o.requests ++ asked ∷ []; awaited = with_awaited head.device head.completion queue o.awaited }))
 
 -- the layout of the completion of the request with an index
-abbrev pub kind_at : ℕ → List Asked → Kind
-kind_at index requests = option_map_or (λ (a : Asked). a.kind) (slice_get requests index) kind.Buffer
+abbrev pub asked_kind : ℕ → List HeardRequest → Kind
+asked_kind index requests = option_map_or (λ (a : HeardRequest). a.kind) (slice_get requests index) kind.Buffer
 
 -- the request with an index has its completion at this place
-abbrev pub completed : ℕ → ℕ → List Asked → List Asked
-completed index place requests = option_map_or (λ (a : Asked). slice_set requests index (record a { completion = Some place })) (slice_get requests index) requests
+abbrev pub with_completion : ℕ → ℕ → List HeardRequest → List HeardRequest
+with_completion index place requests = option_map_or (λ (a : HeardRequest). slice_set requests index (record a { completion = Some place })) (slice_get requests index) requests
 
 -- A completion with this head, where the requests of its pair with these indices still await theirs: it is that of the first of them, or of none.
 abbrev pub heard_of : ℕ → List ℕ → Head → Open → List ℕ → Result Open EntryFault
 heard_of entry message head o [] = Ok (saying entry (completes None message) o)
-heard_of entry message head o (index ∷ others) = unless_bad (tail_of (completion_body (kind_at index o.requests) head.status) (drop 16 message)) (λ tail.
+heard_of entry message head o (index ∷ others) = unless_bad (tail_of (completion_body (asked_kind index o.requests) head.status) (drop 16 message)) (λ tail.
     Ok (saying entry (completes (Some index) message) (record o
-    { requests = completed index (length o.sayings) o.requests; awaited = with_awaited head.device head.completion others o.awaited })))
+    { requests = with_completion index (length o.sayings) o.requests; awaited = with_awaited head.device head.completion others o.awaited })))
 
 -- a completion: of the first request of its pair that has none yet, or of none
 abbrev pub heard_completion : ℕ → List ℕ → Open → Result Open EntryFault
@@ -76,5 +76,5 @@ heard_sent entry side message o (Some p) = if may_send side p then heard_packet 
 heard_sent entry side message o None = in_frame (fault.Field why.Packet)
 
 -- A message of a side, which this entry ended. A header always names some packet.
-abbrev pub heard : ℕ → Side → List ℕ → Open → Result Open EntryFault
-heard entry side message o = unless_bad (met any_header (at_start message)) (λ read. heard_sent entry side message o read.0)
+abbrev pub message_heard : ℕ → Side → List ℕ → Open → Result Open EntryFault
+message_heard entry side message o = unless_bad (met any_header (at_start message)) (λ read. heard_sent entry side message o read.0)

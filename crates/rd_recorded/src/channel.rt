@@ -7,7 +7,7 @@ use std::marker::Model;
 
 /// A request that the host sent.
 #[derive(Drop)]
-pub struct Asked<'a> {
+pub struct HeardRequest<'a> {
     /// The entry of the recording that ended it, counted from 1.
     pub entry: u64,
     pub device: u32,
@@ -18,17 +18,17 @@ pub struct Asked<'a> {
     pub completion: Option<usize>,
 }
 
-impl<'a> Model for Asked<'a> {
+impl<'a> Model for HeardRequest<'a> {
     ghost use Rattle.rd_recorded.specs.Channels as channels;
 
-    ghost Value = { channels.Asked };
+    ghost Value = { channels.HeardRequest };
 
     ghost view = { λ a. record { entry = a.entry; device = a.device; kind = a.kind; message = a.message; completion = a.completion } };
 }
 
 /// What the client said of devices and requests.
 #[derive(Drop)]
-pub enum Said<'a> {
+pub enum ClientSaid<'a> {
     /// Devices are there.
     Announces(Vec<u32>),
     /// Devices are gone.
@@ -41,7 +41,7 @@ pub enum Said<'a> {
 #[derive(Drop)]
 pub struct Saying<'a> {
     pub entry: u64,
-    pub said: Said<'a>,
+    pub said: ClientSaid<'a>,
 }
 
 impl<'a> Model for Saying<'a> {
@@ -55,17 +55,17 @@ impl<'a> Model for Saying<'a> {
 
 /// A channel of a recording.
 #[derive(Drop)]
-pub struct Channel<'a> {
-    pub requests: Vec<Asked<'a>>,
+pub struct HeardChannel<'a> {
+    pub requests: Vec<HeardRequest<'a>>,
     pub sayings: Vec<Saying<'a>>,
     /// Whether the recording says that it ended.
     pub ended: bool,
 }
 
-impl<'a> Model for Channel<'a> {
+impl<'a> Model for HeardChannel<'a> {
     ghost use Rattle.rd_recorded.specs.Channels as channels;
 
-    ghost Value = { channels.Channel };
+    ghost Value = { channels.HeardChannel };
 
     ghost view = { λ c. record { requests = c.requests.items; sayings = c.sayings.items; ended = c.ended } };
 }

@@ -5,11 +5,11 @@ ghost use Rattle.rd_base.specs.declared.bad.Why.TheVariants as why;
 ghost use Rattle.rd_chunk.specs.Sizes.{max_message};
 ghost use Rattle.rd_decode.specs.declared.fault.FaultWhy.TheVariants as fault;
 ghost use Rattle.rd_decode.specs.declared.fault.LineNo.TheVariants as no;
-ghost use Rattle.rd_recorded.specs.Entries.{after_data, all_channels, ended_after, entry, frame_entry, next_entry, silence, under_way};
+ghost use Rattle.rd_recorded.specs.Entries.{heard_data, all_channels, ended_after, entry, frame_heard, next_heard, silence, open_under_way};
 ghost use Rattle.rd_recorded.specs.Channels.{Open};
-ghost use Rattle.rd_recorded.specs.Kept.{TakesEntry, hearing_of, open_of};
+ghost use Rattle.rd_recorded.specs.Kept.{HearsEntry, hearing_of, open_of};
 
-use crate::channel::Channel;
+use crate::channel::HeardChannel;
 use crate::open_channel::OpenChannel;
 use rd_base::Why;
 use rd_chunk::{HEAD_LEN, RowFault, fields_fault, size_fault};
@@ -32,7 +32,7 @@ const ENDED: u8 = 3;
 #[derive(Drop)]
 pub struct Hearing<'a> {
     alloc: Global,
-    channels: Vec<Channel<'a>>,
+    channels: Vec<HeardChannel<'a>>,
     current: Option<OpenChannel<'a>>,
     /// How many entries there were.
     entries: u64,
@@ -52,7 +52,7 @@ impl<'a> Hearing<'a> {
     }
 
     /// All channels, where nothing more comes.
-    pub fn finish(self) -> Result<Vec<Channel<'a>>, AllocError>
+    pub fn finish(self) -> Result<Vec<HeardChannel<'a>>, AllocError>
         ensures { IfOk result (λ channels. channels.items ≡ all_channels (hearing_of self.entry)) }
     {
         let Hearing {
@@ -69,7 +69,7 @@ impl<'a> Hearing<'a> {
     /// Takes the entry with which bytes begin, and returns how many bytes it has; or none, where it isn't all there.
     pub fn take(&mut self, bytes: &'a [u8]) -> Result<Option<usize>, LineNo>
         requires { self.old.entries + length bytes.now < 2 ^ 62 }
-        ensures { TakesEntry (next_entry (hearing_of self.old) (hearing_of self.old).current bytes.now) (hearing_of self.new) result }
+        ensures { HearsEntry (next_heard (hearing_of self.old) (hearing_of self.old).current bytes.now) (hearing_of self.new) result }
     {
         let [mark, frame @ ..] = bytes else {
             return Ok(None);
@@ -95,7 +95,7 @@ impl<'a> Hearing<'a> {
 
     /// Takes the entry that says that the channel ended, which has this number.
     fn end(&mut self, number: u64) -> Result<Option<usize>, LineNo>
-        ensures { (o : Open) → (hearing_of self.old).current ≡ Some o → TakesEntry (entry 1 (ended_after number o (hearing_of self.old))) (hearing_of self.new) result }
+        ensures { (o : Open) → (hearing_of self.old).current ≡ Some o → HearsEntry (entry 1 (ended_after number o (hearing_of self.old))) (hearing_of self.new) result }
     {
         if let Some(open) = self.current.take() {
             self.channels.push(open.close(true))?;
@@ -113,7 +113,7 @@ fn take_frame<'a>(
     side: Side,
     bytes: &'a [u8],
 ) -> Result<Option<usize>, LineNo>
-    ensures { TakesEntry (frame_entry number side (open_of channel.old) bytes.now) (open_of channel.new) result }
+    ensures { HearsEntry (frame_heard number side (open_of channel.old) bytes.now) (open_of channel.new) result }
 {
     let Some(size) = size_of(bytes) else {
         return Ok(None);
@@ -124,7 +124,7 @@ fn take_frame<'a>(
     let Some(head) = head_of(bytes) else {
         return Ok(None);
     };
-    let under_way = channel.under_way(side);
+    let under_way = channel.open_under_way(side);
     if let Some(row) = fields_fault(head, under_way.joined().len(), under_way.whole()) {
         return Err(bad_frame(row));
     }
@@ -151,8 +151,8 @@ fn take_data<'a>(
     whole: usize,
     part: &'a [u8],
 ) -> Result<Option<usize>, LineNo>
-    requires { length (under_way side (open_of channel.old)).joined + length part.now ≤ max_message }
-    ensures { TakesEntry (after_data (13 + length part.now) number side (open_of channel.old) whole part.now) (open_of channel.new) result }
+    requires { length (open_under_way side (open_of channel.old)).joined + length part.now ≤ max_message }
+    ensures { HearsEntry (heard_data (13 + length part.now) number side (open_of channel.old) whole part.now) (open_of channel.new) result }
 {
     let size = 1 + HEAD_LEN + part.len();
     if let Some(message) = channel.join(alloc, side, whole, part)? {

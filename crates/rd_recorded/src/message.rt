@@ -17,11 +17,11 @@ enum Held<'a> {
 
 impl<'a> Model for Message<'a> {
     ghost use Rattle.std.specs.Prelude.{ℕ, List};
-    ghost use Rattle.rd_recorded.specs.Bytes.{bytes_of};
+    ghost use Rattle.rd_recorded.specs.Bytes.{held_bytes};
 
     ghost Value = { List ℕ };
 
-    ghost view = { λ m. bytes_of m.0 };
+    ghost view = { λ m. held_bytes m.0 };
 }
 
 impl<'a> Message<'a> {

@@ -6,13 +6,13 @@ ghost use Rattle.rd_chunk.specs.Sizes.{max_message};
 ghost use Rattle.rd_irp.specs.Completion.{completion_body};
 ghost use Rattle.rd_irp.specs.Fits.{completion_head_len};
 ghost use Rattle.rd_irp.specs.Measure.{tail_of};
-ghost use Rattle.rd_recorded.specs.Channels.{closed, fresh};
-ghost use Rattle.rd_recorded.specs.Entries.{under_way};
-ghost use Rattle.rd_recorded.specs.Kept.{Hears, Joins, JoinsOn, open_of};
+ghost use Rattle.rd_recorded.specs.Channels.{closed, fresh_open};
+ghost use Rattle.rd_recorded.specs.Entries.{open_under_way};
+ghost use Rattle.rd_recorded.specs.Kept.{Hears, JoinsPart, JoinsOn, open_of};
 ghost use Rattle.rd_recorded.specs.Views.{said_of};
-ghost use Rattle.rd_recorded.specs.Messages.{completed, heard, heard_completion, heard_list, heard_packet, heard_removal, heard_request, kind_at, saying};
+ghost use Rattle.rd_recorded.specs.Messages.{with_completion, message_heard, heard_completion, heard_list, heard_packet, heard_removal, heard_request, asked_kind, saying};
 
-use crate::channel::{Asked, Channel, Said, Saying};
+use crate::channel::{ClientSaid, HeardChannel, HeardRequest, Saying};
 use crate::message::Message;
 use rd_base::{Bad, Bytes, Packet, Status, Why, packet_of};
 use rd_decode::{
@@ -27,7 +27,7 @@ use std::alloc::{AllocError, Global};
 pub struct OpenChannel<'a> {
     host: UnderWay,
     client: UnderWay,
-    requests: Vec<Asked<'a>>,
+    requests: Vec<HeardRequest<'a>>,
     sayings: Vec<Saying<'a>>,
     /// Of each pair the indices of the requests whose completions are still to come.
     awaited: Requests<usize>,
@@ -36,7 +36,7 @@ pub struct OpenChannel<'a> {
 impl<'a> OpenChannel<'a> {
     /// A channel that begins.
     pub fn new(alloc: Global) -> OpenChannel<'a>
-        ensures { open_of result ≡ fresh }
+        ensures { open_of result ≡ fresh_open }
     {
         OpenChannel {
             host: UnderWay::new(alloc),
@@ -48,7 +48,7 @@ impl<'a> OpenChannel<'a> {
     }
 
     /// The channel, once nothing more is heard on it.
-    pub fn close(self, ended: bool) -> Channel<'a>
+    pub fn close(self, ended: bool) -> HeardChannel<'a>
         ensures { result ≡ closed ended (open_of self.entry) }
     {
         let OpenChannel {
@@ -56,7 +56,7 @@ impl<'a> OpenChannel<'a> {
             sayings,
             ..
         } = self;
-        Channel {
+        HeardChannel {
             requests,
             sayings,
             ended,
@@ -64,8 +64,8 @@ impl<'a> OpenChannel<'a> {
     }
 
     /// What a side has under way.
-    pub fn under_way(&self, side: Side) -> &UnderWay
-        ensures { result.now ≡ under_way side (open_of self.now) }
+    pub fn open_under_way(&self, side: Side) -> &UnderWay
+        ensures { result.now ≡ open_under_way side (open_of self.now) }
     {
         match side {
             Side::Host => &self.host,
@@ -81,7 +81,7 @@ impl<'a> OpenChannel<'a> {
         whole: usize,
         part: &'a [u8],
     ) -> Result<Option<Message<'a>>, AllocError>
-        requires { length (under_way side (open_of self.old)).joined + length part.now ≤ max_message }
+        requires { length (open_under_way side (open_of self.old)).joined + length part.now ≤ max_message }
         ensures { IfOk result (JoinsOn side whole part.now (open_of self.old) (open_of self.new)) }
     {
         match side {
@@ -99,7 +99,7 @@ impl<'a> OpenChannel<'a> {
         message: Message<'a>,
     ) -> Result<(), LineNo>
         requires { length message ≤ max_message }
-        ensures { Hears (heard entry side message.entry (open_of self.old)) (open_of self.new) result }
+        ensures { Hears (message_heard entry side message.entry (open_of self.old)) (open_of self.new) result }
     {
         let packet = packet_of(message.as_slice())?;
         if !may_send(side, packet) {
@@ -145,7 +145,7 @@ impl<'a> OpenChannel<'a> {
             completion: head.completion,
         };
         self.awaited.add(pair, self.requests.len())?;
-        self.requests.push(Asked {
+        self.requests.push(HeardRequest {
             entry,
             device: head.device,
             kind: kind_of_major(head.major),
@@ -167,18 +167,18 @@ impl<'a> OpenChannel<'a> {
         };
         let index = self.awaited.complete(pair)?;
         if let Some(index) = index {
-            let kind = self.kind_at(index);
+            let kind = self.asked_kind(index);
             measure(kind, head.status, message.as_slice())?;
             let place = self.sayings.len();
             self.complete(index, place);
         }
-        self.say(entry, Said::Completes(index, message))?;
+        self.say(entry, ClientSaid::Completes(index, message))?;
         Ok(())
     }
 
     /// The layout of the completion of the request with an index.
-    fn kind_at(&self, index: usize) -> Kind
-        ensures { result ≡ kind_at index (open_of self.now).requests }
+    fn asked_kind(&self, index: usize) -> Kind
+        ensures { result ≡ asked_kind index (open_of self.now).requests }
     {
         match self.requests.get(index) {
             Some(request) => request.kind,
@@ -188,7 +188,7 @@ impl<'a> OpenChannel<'a> {
 
     /// The request with an index has its completion at this place among what the client says.
     fn complete(&mut self, index: usize, place: usize)
-        ensures { open_of self.new ≡ record (open_of self.old) { requests = completed index place (open_of self.old).requests } }
+        ensures { open_of self.new ≡ record (open_of self.old) { requests = with_completion index place (open_of self.old).requests } }
     {
         if let Some(request) = self.requests.get_mut(index) {
             request.completion = Some(place);
@@ -205,7 +205,7 @@ impl<'a> OpenChannel<'a> {
         for device in list.as_slice() {
             ids.push(device.id)?;
         }
-        self.say(entry, Said::Announces(ids))?;
+        self.say(entry, ClientSaid::Announces(ids))?;
         Ok(())
     }
 
@@ -220,12 +220,12 @@ impl<'a> OpenChannel<'a> {
         ensures { Hears (heard_removal entry message.now (open_of self.old)) (open_of self.new) result }
     {
         let (removal, _) = read_removal(alloc, message.as_slice())?;
-        self.say(entry, Said::Removes(removal))?;
+        self.say(entry, ClientSaid::Removes(removal))?;
         Ok(())
     }
 
     /// The client says something more.
-    fn say(&mut self, entry: u64, said: Said<'a>) -> Result<(), AllocError>
+    fn say(&mut self, entry: u64, said: ClientSaid<'a>) -> Result<(), AllocError>
         ensures { OnOk result (open_of self.new ≡ saying entry (said_of said.entry) (open_of self.old)) }
     {
         self.sayings.push(Saying { entry, said })?;
@@ -241,7 +241,7 @@ fn join<'a>(
     part: &'a [u8],
 ) -> Result<Option<Message<'a>>, AllocError>
     requires { length under_way.old.joined + length part.now ≤ max_message }
-    ensures { IfOk result (Joins whole part.now under_way.old under_way.new) }
+    ensures { IfOk result (JoinsPart whole part.now under_way.old under_way.new) }
 {
     if under_way.joined().is_empty() && part.len() == whole {
         under_way.clear();

@@ -3,10 +3,10 @@
 ghost use Rattle.std.specs.Prelude.{◌≡◌, ◌+◌, ◌<◌, ◌^◌, Ok, IfOk, IfErr, length};
 ghost use Rattle.rd_decode.specs.declared.fault.FaultWhy.TheVariants as fault;
 ghost use Rattle.rd_recorded.specs.declared.no.RecordingNo.TheVariants as no;
-ghost use Rattle.rd_recorded.specs.Entries.{channels_of};
+ghost use Rattle.rd_recorded.specs.Entries.{recorded_channels};
 ghost use Rattle.rd_recorded.specs.Kept.{RefusedFor};
 
-use crate::channel::Channel;
+use crate::channel::HeardChannel;
 use crate::hearing::Hearing;
 use crate::no::RecordingNo;
 use rd_base::Why;
@@ -17,14 +17,14 @@ use std::alloc::Global;
 const MAGIC: &[u8] = b"RDRREC01";
 
 /// The channels of a recording, whose first byte has this place in the file that holds it.
-pub fn channels_of<'a>(
+pub fn recorded_channels<'a>(
     alloc: Global,
     bytes: &'a [u8],
     at: u64,
-) -> Result<Vec<Channel<'a>>, RecordingNo>
+) -> Result<Vec<HeardChannel<'a>>, RecordingNo>
     requires { at + length bytes.now < 2 ^ 62 }
-    ensures heard { IfOk result (λ channels. channels_of at bytes.now ≡ Ok channels.items) }
-    ensures refused { IfErr result (RefusedFor (channels_of at bytes.now)) }
+    ensures heard { IfOk result (λ channels. recorded_channels at bytes.now ≡ Ok channels.items) }
+    ensures refused { IfErr result (RefusedFor (recorded_channels at bytes.now)) }
 {
     if bytes.len() < MAGIC.len() || !bytes.starts_with(MAGIC) {
         return Err(bad(at, Why::Value));

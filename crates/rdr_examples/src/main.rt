@@ -1,9 +1,10 @@
 //! Runs the examples of the current folder, and compares what each does with what stands beside it.
 //!
 //! `NAME.script` is played with `both`: `NAME.report` is the output, `NAME.rec` the recording, `NAME.status` the exit status where that
-//! isn't 0. `NAME.words` are the words of a command without an input: `NAME.report` is the output. The recording of either is read with `decode`,
-//! which finds no fault. Where there is a `NAME.lines`, `NAME.rec` is read with `decode`: `NAME.lines` is the output, and `NAME.status` the exit
-//! status where no script has that name. It fails where one differs.
+//! isn't 0; where it is, `trace` records the same, and `audit` says `yes` of what it prints. `NAME.words` are the words of a command without
+//! an input: `NAME.report` is the output. The recording of either is read with `decode`, which finds no fault. Where there is a
+//! `NAME.lines`, `NAME.rec` is read with `decode`: `NAME.lines` is the output, and `NAME.status` the exit status where no script has that
+//! name. It fails where one differs.
 #![tactic(auto)]
 
 use anyhow::{Context, Result, bail};
@@ -81,7 +82,27 @@ fn played<R: Threads + Wait + Sync + Files + AllocGlobal>(
     if left.status != 0 {
         return Ok(None);
     }
-    fault_in(rt, &left.recording)
+    match fault_in(rt, &left.recording)? {
+        None => audited(rt, name, &left.recording),
+        fault => Ok(fault),
+    }
+}
+
+/// What is wrong with the audit file of a script that was recorded so, if anything is.
+fn audited<R: Threads + Wait + Sync + Files + AllocGlobal>(
+    rt: &R,
+    name: &String,
+    recording: &MemSink,
+) -> Result<Option<&'static str>> {
+    let traced = left_by(rt, &["trace"], read(rt, name, "script")?)?;
+    if traced.status != 0 || traced.recording.bytes() != recording.bytes() {
+        return Ok(Some("another RECORDING of trace"));
+    }
+    let found = left_by(rt, &["audit"], traced.output.bytes().to_vec(rt.alloc())?)?;
+    match found.status {
+        0 => Ok(None),
+        _ => Ok(Some("something in its AUDIT that doesn't belong")),
+    }
 }
 
 /// The first thing in which a command without an input differs from what stands beside its words.

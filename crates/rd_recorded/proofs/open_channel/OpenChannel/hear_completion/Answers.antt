@@ -2,7 +2,7 @@ use Rattle.std.proofs.Common.{rules, ◌≡◌, ℕ, length, Option, Some, None,
 use Rattle.rd_decode.specs.Awaited.{others_of, with_awaited}
 use Rattle.rd_recorded.specs.Channels.{Open, completes}
 use Rattle.rd_recorded.specs.Kept.{open_of}
-use Rattle.rd_recorded.specs.Messages.{completed, saying}
+use Rattle.rd_recorded.specs.Messages.{with_completion, saying}
 use Rattle.rd_recorded.proofs.HeardLemmas.{completion_fails, completion_heard, head_heard, hears_fault, none_changes, stray_heard}
 use Rattle.rd_recorded.proofs.open_channel.OpenChannel.hear_completion.Goals as goal
 use Rattle.rd_recorded.proofs.open_channel.OpenChannel.hear_completion.Goals.{in-Some+in_ok-measure, in_default}
@@ -14,7 +14,7 @@ returns-in_err-measure c =
     let o = open_of c.args.self.now in
     let queue = o.awaited head.device head.completion in
     let read = head_heard c.args.entry c.as_slice.result.now c.args.message o head _ c.as_slice.ensures c.in_ok-head.ensures.spelled in
-    let fails = completion_fails c.args.entry c.as_slice-in-Some.result.now c.args.message o head queue c.in-Some.index c.kind_at-kind.result c.in_err-measure.field-0.0 c.as_slice-in-Some.ensures c.kind_at-kind.ensures (sym c.in-Some.is ∙ c.in_ok-index.ensures.first) c.in_err-measure.ensures.refused in
+    let fails = completion_fails c.args.entry c.as_slice-in-Some.result.now c.args.message o head queue c.in-Some.index c.asked_kind-kind.result c.in_err-measure.field-0.0 c.as_slice-in-Some.ensures c.asked_kind-kind.ensures (sym c.in-Some.is ∙ c.in_ok-index.ensures.first) c.in_err-measure.ensures.refused in
     hears_fault _ _ _ c.in_err-measure.field-0.0 (search rules) (read ∙ fails)
 
 -- src/open_channel.rt:159:5
@@ -28,10 +28,10 @@ returns c =
     let read = head_heard entry c.as_slice.result.now message o head _ c.as_slice.ensures c.in_ok-head.ensures.spelled in
     elim c.match-index.branch [
       | in-Some+in_ok-measure w ↦
-          let found = completion_heard entry w.as_slice-in-Some.result.now message o head queue w.in-Some.index w.in_ok-measure.ensures.measured.0 w.kind_at-kind.result w.as_slice-in-Some.ensures w.kind_at-kind.ensures (sym w.in-Some.is ∙ c.in_ok-index.ensures.first) w.in_ok-measure.ensures.measured.2 in
+          let found = completion_heard entry w.as_slice-in-Some.result.now message o head queue w.in-Some.index w.in_ok-measure.ensures.measured.0 w.asked_kind-kind.result w.as_slice-in-Some.ensures w.asked_kind-kind.ensures (sym w.in-Some.is ∙ c.in_ok-index.ensures.first) w.in_ok-measure.ensures.measured.2 in
           let said = c.in_ok-say.ensures ∙ ap (λ (i : Option ℕ). saying entry (completes i message) (open_of c.match-index.self)) w.index-is ∙ ap (λ s. saying entry (completes (Some w.in-Some.index) message) (open_of s)) w.self-is in
           let place : w.len-place.result ≡ length o.sayings = search rules in
-          let done : open_of w.complete-in-Some.new.self ≡ record o { requests = completed w.in-Some.index (length o.sayings) o.requests; awaited = with_awaited head.device head.completion (others_of queue) o.awaited } = w.complete-in-Some.ensures ∙ rw (place, c.in_ok-index.ensures.others) refl in
+          let done : open_of w.complete-in-Some.new.self ≡ record o { requests = with_completion w.in-Some.index (length o.sayings) o.requests; awaited = with_awaited head.device head.completion (others_of queue) o.awaited } = w.complete-in-Some.ensures ∙ rw (place, c.in_ok-index.ensures.others) refl in
           read ∙ found ∙ sym (ap (λ x. Ok x) (said ∙ ap (λ (x : Open). saying entry (completes (Some w.in-Some.index) message) x) done))
       | in_default w ↦
           let none : None ≡ _ = sym w.in_default.is ∙ c.in_ok-index.ensures.first in

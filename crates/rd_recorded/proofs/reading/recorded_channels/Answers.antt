@@ -6,15 +6,15 @@ use Rattle.rd_decode.specs.Recording.{magic}
 use Rattle.rd_decode.specs.declared.fault.LineNo.{LineNo}
 use Rattle.rd_decode.proofs.MessageLemmas.{slice_from}
 use Rattle.rd_recorded.specs.declared.no.RecordingNo.{RecordingNo}
-use Rattle.rd_recorded.specs.Entries.{Hearing, channels_of, cut, entry, heard_from, next_entry, wrong}
-use Rattle.rd_recorded.specs.Kept.{RefusedFor, TakesEntry, hearing_of}
+use Rattle.rd_recorded.specs.Entries.{Hearing, recorded_channels, cut, entry, heard_from, next_heard, wrong}
+use Rattle.rd_recorded.specs.Kept.{RefusedFor, HearsEntry, hearing_of}
 use Rattle.rd_recorded.proofs.EntryLemmas.{begun, entry_follows, one_cut, one_entry, one_fault}
-use Rattle.rd_recorded.proofs.reading.channels_of.Goals as goal
+use Rattle.rd_recorded.proofs.reading.recorded_channels.Goals as goal
 
 -- an entry was taken where so many bytes were before
-taken_entry : (h new : Hearing) (bytes : List ℕ) (taken size : ℕ) (o : Option ℕ) → o ≡ Some size → TakesEntry (next_entry h h.current (take (length bytes - taken) (drop taken bytes))) new (Ok o) → next_entry h h.current (drop taken bytes) ≡ entry size new
+taken_entry : (h new : Hearing) (bytes : List ℕ) (taken size : ℕ) (o : Option ℕ) → o ≡ Some size → HearsEntry (next_heard h h.current (take (length bytes - taken) (drop taken bytes))) new (Ok o) → next_heard h h.current (drop taken bytes) ≡ entry size new
 taken_entry h new bytes taken size o is took =
-    subst (λ (xs : List ℕ). next_entry h h.current xs ≡ entry size new) (slice_from taken bytes) (subst (λ (x : Option ℕ). TakesEntry (next_entry h h.current (take (length bytes - taken) (drop taken bytes))) new (Ok x)) is took)
+    subst (λ (xs : List ℕ). next_heard h h.current xs ≡ entry size new) (slice_from taken bytes) (subst (λ (x : Option ℕ). HearsEntry (next_heard h h.current (take (length bytes - taken) (drop taken bytes))) new (Ok x)) is took)
 
 -- src/reading.rt:34:5
 pub loop-taken-init : goal.loop-taken-init
@@ -71,10 +71,10 @@ returns-in-Ok-None-clause-refused c =
     let h = hearing_of c.loop-taken.hearing in
     let so_far = c.loop-taken.invariant in
     let slice = take (length bytes - taken) (drop taken bytes) in
-    let took = subst (λ (o : Option ℕ). TakesEntry (next_entry h h.current slice) (hearing_of c.take.new.self) (Ok o)) c.in-Ok-None.field-0-is c.in-Ok-None.ensures in
-    let next = subst (λ (xs : List ℕ). next_entry h h.current xs ≡ cut) (slice_from taken bytes) took in
+    let took = subst (λ (o : Option ℕ). HearsEntry (next_heard h h.current slice) (hearing_of c.take.new.self) (Ok o)) c.in-Ok-None.field-0-is c.in-Ok-None.ensures in
+    let next = subst (λ (xs : List ℕ). next_heard h h.current xs ≡ cut) (slice_from taken bytes) took in
     let some : 1 ≤ length (drop taken bytes) = omega (arith, length-drop taken bytes, c.loop-taken-test.true) in
-    subst (λ (n : RecordingNo). RefusedFor (channels_of c.args.at bytes) n) (sym c.bad-in-Ok-None.ensures) (so_far.4 ∙ one_cut so_far.0 (c.args.at + taken) h (drop taken bytes) some so_far.1 next)
+    subst (λ (n : RecordingNo). RefusedFor (recorded_channels c.args.at bytes) n) (sym c.bad-in-Ok-None.ensures) (so_far.4 ∙ one_cut so_far.0 (c.args.at + taken) h (drop taken bytes) some so_far.1 next)
 
 -- src/reading.rt:40:17
 pub returns-in-Err-Bad-clause-refused : goal.returns-in-Err-Bad-clause-refused
@@ -85,6 +85,6 @@ returns-in-Err-Bad-clause-refused c =
     let fault = c.in-Err-Bad.fault in
     let so_far = c.loop-taken.invariant in
     let slice = take (length bytes - taken) (drop taken bytes) in
-    let took = subst (λ (e : LineNo). TakesEntry (next_entry h h.current slice) (hearing_of c.take.new.self) (Err e)) c.in-Err-Bad.field-0-is c.in-Err-Bad.ensures in
-    let next = subst (λ (xs : List ℕ). next_entry h h.current xs ≡ wrong fault.offset fault.why) (slice_from taken bytes) took in
+    let took = subst (λ (e : LineNo). HearsEntry (next_heard h h.current slice) (hearing_of c.take.new.self) (Err e)) c.in-Err-Bad.field-0-is c.in-Err-Bad.ensures in
+    let next = subst (λ (xs : List ℕ). next_heard h h.current xs ≡ wrong fault.offset fault.why) (slice_from taken bytes) took in
     so_far.4 ∙ one_fault so_far.0 (c.args.at + taken) h (drop taken bytes) fault.offset fault.why so_far.1 next ∙ ap (λ (n : ℕ). Err (record { at = c.args.at + taken + n; why = fault.why })) (sym c.from.ensures)

@@ -1,0 +1,116 @@
+//! The judgement of an audit file.
+
+ghost use Rattle.std.specs.Prelude.{◌≡◌, ℕ, ◌+◌, ◌<◌, ◌^◌, List, [], All, IfErr, IfOk, None, length, map};
+ghost use Rattle.rd_declared.specs.Devices.{Declared};
+ghost use Rattle.rd_audit_file.specs.declared.line.JournalLine.{JournalLine};
+ghost use Rattle.rd_audit_file.specs.Journals.{lines_text};
+ghost use Rattle.rd_audit_file.specs.Lines.{LineFits};
+ghost use Rattle.rd_audit.specs.declared.no.AuditNo.TheVariants.{Memory};
+ghost use Rattle.rd_audit.specs.Audit.{Audits, says_unlawful};
+ghost use Rattle.rd_audit.specs.Lawful.{first_unlawful};
+ghost use Rattle.rd_audit.specs.Refusals.{ChecksAt};
+
+use crate::completions::first_wrong;
+use crate::course::Courses;
+use crate::journals::replay_journals;
+use crate::lawful::first_unlawful;
+use crate::no::AuditNo;
+use crate::verdict::Verdict;
+use rd_audit_file::{AuditFile, FieldFault, check_journals};
+use rd_declared::{DeclaredDevice, declared_devices};
+use rd_recorded::{HeardChannel, recorded_channels};
+use rd_script::{Mode, read_script};
+use std::alloc::{AllocError, Global};
+use std::collections::BTreeMap;
+
+/// Judges an audit file.
+pub fn audit(alloc: Global, bytes: &[u8]) -> Result<Verdict, AuditNo>
+    requires { length bytes.now < 2 ^ 62 }
+    ensures { Audits bytes.now result }
+{
+    let mut file = AuditFile::begin(bytes)?;
+    let script = read_script(alloc, Mode::Both, file.counted()?)?;
+    let devices = declared_devices(alloc, script.lines.as_slice())?;
+    let text = file.counted()?;
+    let text_at = file.at() - text.len();
+    check_text(text, text_at, ids_of(alloc, &devices)?.as_slice())?;
+    let channels = recorded_channels(alloc, file.rest(), file.at() as u64)?;
+    judge(alloc, devices, text, channels.as_slice())
+}
+
+/// The ids of devices.
+fn ids_of(alloc: Global, devices: &BTreeMap<u32, DeclaredDevice>) -> Result<Vec<u32>, AllocError>
+    ensures { IfOk result (λ ids. ids.items ≡ map (λ (d : ℕ × Declared). d.0) devices.now.entries) }
+{
+    let mut ids = Vec::with_capacity(alloc, devices.len())?;
+    for (id, _) in devices {
+        ids.push(*id)?;
+    }
+    Ok(ids)
+}
+
+/// Whether a text, whose first byte has this place in its file, is that of journals of these devices, or its first fault.
+fn check_text(text: &[u8], at: usize, ids: &[u32]) -> Result<(), FieldFault>
+    requires { at + length text.now < 2 ^ 62 }
+    ensures { ChecksAt at ids.now text.now result }
+{
+    match check_journals(text, ids) {
+        Ok(()) => Ok(()),
+        Err(fault) => Err(FieldFault {
+            at: at + fault.at,
+            why: fault.why,
+        }),
+    }
+}
+
+/// Judges the journals of a text and the channels of a recording, in the order of what can be wrong.
+fn judge(
+    alloc: Global,
+    devices: BTreeMap<u32, DeclaredDevice>,
+    text: &[u8],
+    channels: &[HeardChannel<'_>],
+) -> Result<Verdict, AuditNo>
+    requires { length text.now < 2 ^ 62 }
+    ensures lawful { (lines : List JournalLine) → text.now ≡ lines_text lines → All LineFits lines → IfOk result (λ v. says_unlawful v ≡ first_unlawful 0 [] lines) }
+    ensures refused { IfErr result (λ no. no ≡ Memory) }
+{
+    if let Some(verdict) = first_unlawful(alloc, text)? {
+        return Ok(verdict);
+    }
+    let replayed = match replay_journals(alloc, devices, text, channels)? {
+        Ok(replayed) => replayed,
+        Err(verdict) => return Ok(verdict),
+    };
+    match first_wrong(alloc, channels, &replayed)? {
+        Some(verdict) => Ok(verdict),
+        None => Ok(first_open(channels, &replayed.courses)),
+    }
+}
+
+/// The first channel that lacks a completion, if one does.
+fn first_open(channels: &[HeardChannel<'_>], courses: &Courses) -> Verdict
+    ensures { says_unlawful result ≡ None }
+{
+    for place in 0..channels.len() {
+        if lacks(&channels[place], place, courses) {
+            let channel = u32::try_from(place + 1).unwrap_or(u32::MAX);
+            return Verdict::Open { channel };
+        }
+    }
+    Verdict::Yes
+}
+
+/// Whether a request of the channel at a place has no completion that it should have: each one has where the channel didn't end, and each one whose completion
+/// was handed out.
+fn lacks(channel: &HeardChannel<'_>, place: usize, courses: &Courses) -> bool {
+    for index in 0..channel.requests.len() {
+        let is_due = match courses.at(place, index) {
+            Some(course) => !channel.ended || course.sent.is_some(),
+            None => false,
+        };
+        if is_due && channel.requests[index].completion.is_none() {
+            return true;
+        }
+    }
+    false
+}
