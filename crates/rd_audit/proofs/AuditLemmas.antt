@@ -1,5 +1,5 @@
 -- An audit file is refused, or judged, by how far its parts are there.
-use Rattle.std.proofs.Common.{◌≡◌, ℕ, ◌+◌, List, [], map, All, Result, Ok, Err, sym, ap, subst, ◌∙◌}
+use Rattle.std.proofs.Common.{◌≡◌, ℕ, ◌+◌, List, map, All, Result, Ok, Err, sym, ap, subst, ◌∙◌}
 use Rattle.std.specs.Prelude.{IfErr, IfOk, IsErrAnd}
 use Rattle.rd_base.specs.declared.journal.Item.{Item}
 use Rattle.rd_base.specs.Position.{Position}
@@ -24,8 +24,8 @@ use Rattle.rd_recorded.specs.Kept.{RefusedFor}
 use Rattle.rd_audit.specs.declared.no.AuditNo.{AuditNo}
 use Rattle.rd_audit.specs.declared.no.AuditNo.TheVariants as no
 use Rattle.rd_audit.specs.declared.verdict.Verdict.{Verdict}
-use Rattle.rd_audit.specs.Audit.{Audits, HasJournals, HasRecording, HasScript, IsRefusedFile, bad_recording, bad_script, bad_text, script_ids, no_memory, says_unlawful}
-use Rattle.rd_audit.specs.Lawful.{first_unlawful}
+use Rattle.rd_audit.specs.Audit.{Audits, HasJournals, HasRecording, HasScript, IsRefusedFile, bad_recording, bad_script, bad_text, script_devices, script_ids, no_memory}
+use Rattle.rd_audit.specs.Judged.{judged}
 use Rattle.rd_audit.specs.Refusals.{ChecksAt, refused_field, refused_recording, refused_script}
 
 -- an error is the refusal that it becomes
@@ -57,7 +57,16 @@ recording_refused bytes script journals begin at rest (recording_no.Bad f) has p
 recording_refused bytes script journals begin at rest recording_no.Memory has place left fault = no_memory
 
 -- journals and a recording that were judged
-pub judged : (bytes : List ℕ) (script : Script) (journals : List (ℕ × List Item)) (channels : List HeardChannel) (text : List ℕ) (r : Result Verdict AuditNo) → HasRecording bytes script journals channels → IsJournalText (script_ids script) text journals
-    → ((lines : List JournalLine) → text ≡ lines_text lines → All LineFits lines → IfOk r (λ v. says_unlawful v ≡ first_unlawful 0 [] lines)) → IfErr r (λ n. n ≡ no.Memory) → Audits bytes r
-judged bytes script journals channels text (Ok v) parts reads lawful memory = record { script = script; journals = journals; channels = channels; parts = parts; lawful = lawful (journal_lines journals) reads.parts reads.fit }
-judged bytes script journals channels text (Err n) parts reads lawful memory = subst (IsRefusedFile bytes) (sym memory) no_memory
+pub judged_parts : (bytes : List ℕ) (script : Script) (journals : List (ℕ × List Item)) (channels heard : List HeardChannel) (text : List ℕ) (devices : List (ℕ × Declared)) (r : Result Verdict AuditNo) → HasRecording bytes script journals channels → IsJournalText (script_ids script) text journals
+    → devices ≡ script_devices script → heard ≡ channels
+    → ((lines : List JournalLine) → text ≡ lines_text lines → All LineFits lines → IfOk r (λ v. v ≡ judged devices lines heard)) → IfErr r (λ n. n ≡ no.Memory) → Audits bytes r
+judged_parts bytes script journals channels heard text devices (Ok v) parts reads same all is memory =
+    record {
+      script = script;
+      journals = journals;
+      channels = channels;
+      parts = parts;
+      verdict = is (journal_lines journals) reads.parts reads.fit
+          ∙ ap (λ (ds : List (ℕ × Declared)). judged ds (journal_lines journals) heard) same ∙ ap (judged (script_devices script) (journal_lines journals)) all;
+    }
+judged_parts bytes script journals channels heard text devices (Err n) parts reads same all is memory = subst (IsRefusedFile bytes) (sym memory) no_memory

@@ -2,6 +2,7 @@
 use Rattle.std.proofs.Common.{◌≡◌, ◌∙◌, refl, sym, ap, subst, ℕ, Bool, true, false, List, [], ◌∷◌, ◌++◌, Option, Some, None, length, ◌+◌, append_assoc, append-nil}
 use Rattle.std.specs.Prelude.{◌↔◌, if◌then◌else◌, map, option_map}
 use Rattle.std.specs.List.{AllByRecursion}
+use Rattle.std.specs.Option.{option_or}
 use Rattle.rd_base.specs.declared.journal.Item.{Item}
 use Rattle.rd_base.specs.Lawful.{IsLawful}
 use Rattle.rd_audit_file.specs.declared.line.JournalLine.{JournalLine}
@@ -11,17 +12,17 @@ use Rattle.rd_lawful.specs.declared.rule.Rule.{Rule}
 use Rattle.rd_lawful.specs.Rules.{IsLawfulSoFar, few_unsent, rule_broken, rule_number}
 use Rattle.rd_lawful.proofs.LawLemmas.{so_far-less, so_far-more, so_far-nil, whole_is}
 use Rattle.rd_lawful.proofs.TestLemmas.{few-decides}
-use Rattle.rd_audit.specs.Lawful.{broken_at_end, entry_broken, first_unlawful, found_or}
+use Rattle.rd_audit.specs.Lawful.{broken_at_end, entry_broken, first_unlawful}
 use Rattle.rd_audit.specs.declared.verdict.Verdict.{Verdict}
 use Rattle.rd_audit.specs.declared.verdict.Verdict.TheVariants as verdict
 
 -- nothing is found in two exactly where nothing is in either
-neither_found : (f g : Option Verdict) → (found_or f g ≡ None) → (f ≡ None) × (g ≡ None)
+neither_found : (f g : Option Verdict) → (option_or f g ≡ None) → (f ≡ None) × (g ≡ None)
 neither_found None g none = (refl, none)
 neither_found (Some v) g none = absurd (cc)
 
-none_found : (f g : Option Verdict) → f ≡ None → g ≡ None → found_or f g ≡ None
-none_found f g first second = ap (λ (h : Option Verdict). found_or h g) first ∙ second
+none_found : (f g : Option Verdict) → f ≡ None → g ≡ None → option_or f g ≡ None
+none_found f g first second = ap (λ (h : Option Verdict). option_or h g) first ∙ second
 
 -- a journal may end exactly where nothing is found at its end
 end_is : (device : ℕ) (items : List Item) → (broken_at_end device items ≡ None) ↔ (few_unsent items ≡ true)

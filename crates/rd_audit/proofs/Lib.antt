@@ -1,4 +1,10 @@
 pub mod LineLemmas
+pub mod LawLemmas
 pub mod PartLemmas
 pub mod AuditLemmas
-pub mod LawLemmas
+pub mod CourseLemmas
+pub mod ReplyLemmas
+pub mod ReplayLemmas
+pub mod WalkLemmas
+pub mod TellingLemmas
+pub mod OpenLemmas

@@ -1,6 +1,7 @@
 -- The lines of journals, as far as they were judged.
 use Rattle.std.proofs.Common.{◌≡◌, ℕ, suc, ◌+◌, ◌≤◌, Bool, true, false, List, [], ◌∷◌, ◌++◌, length, All, Option, Some, None, refl, sym, ap, subst, ◌∙◌, length-append, arith}
-use Rattle.std.specs.Prelude.{IsTrue, ◌↔◌, ◌≢◌, is_some, if◌then◌else◌, option_map}
+use Rattle.std.specs.Prelude.{IsTrue, ◌↔◌, ◌≢◌, is_some}
+use Rattle.std.specs.Option.{option_or}
 use Rattle.rd_base.specs.declared.journal.Item.{Item}
 use Rattle.rd_base.specs.Lawful.{FewUnsent}
 use Rattle.rd_audit_file.specs.declared.line.JournalLine.{JournalLine}
@@ -8,14 +9,11 @@ use Rattle.rd_audit_file.specs.declared.line.JournalLine.TheVariants.{Device, En
 use Rattle.rd_audit_file.specs.Lines.{BeginsWithLine, BeginsWithNoLine, LineFits, line_text}
 use Rattle.rd_audit_file.specs.Journals.{lines_text}
 use Rattle.rd_audit_file.proofs.LineLemmas.{begins_once, line_nonempty}
-use Rattle.rd_lawful.specs.declared.rule.Rule.{Rule}
-use Rattle.rd_lawful.specs.Rules.{few_unsent, rule_broken, rule_number}
+use Rattle.rd_lawful.specs.Rules.{few_unsent}
 use Rattle.rd_lawful.proofs.TestLemmas.{few-decides}
-use Rattle.rd_audit.specs.Lawful.{HasJudged, broken_at_end, entry_broken, first_unlawful, found_or}
+use Rattle.rd_audit.specs.Lawful.{HasJudged, broken_at_end, entry_broken, first_unlawful}
 use Rattle.rd_audit.specs.declared.lawful.Judged.{Judged}
 use Rattle.rd_audit.specs.declared.verdict.Verdict.{Verdict}
-use Rattle.rd_audit.specs.declared.verdict.Verdict.TheVariants as verdict
-use Rattle.rd_audit.specs.Audit.{says_unlawful}
 
 -- what decides whether few are unsent says so
 pub few_is : (items : List Item) (may : Bool) → (IsTrue may ↔ FewUnsent items) → few_unsent items ≡ may
@@ -45,7 +43,7 @@ judged_none text j judged = record {
 }
 
 -- the lines of a text that begins with a line
-one_line : (left : List ℕ) (line : JournalLine) (after : List ℕ) (rest : List JournalLine) → BeginsWithLine left line after → left ≡ lines_text rest → All LineFits rest
+pub one_line : (left : List ℕ) (line : JournalLine) (after : List ℕ) (rest : List JournalLine) → BeginsWithLine left line after → left ≡ lines_text rest → All LineFits rest
     → (others : List JournalLine) × (rest ≡ line ∷ others) × (after ≡ lines_text others) × All LineFits others
 one_line left line after [] begins is fit =
     let nothing : line_text line ++ after ≡ [] = sym begins.parts ∙ is in
@@ -57,7 +55,7 @@ one_line left line after (first ∷ others) begins is fit =
     (others, ap (λ (l : JournalLine). l ∷ others) (sym same.0), same.1, λ k d below. fit (suc k) d (omega (arith, below)))
 
 -- the bytes of a line that was read are fewer by one at least
-line_less : (left : List ℕ) (line : JournalLine) (after : List ℕ) → BeginsWithLine left line after → 1 + length after ≤ length left
+pub line_less : (left : List ℕ) (line : JournalLine) (after : List ℕ) → BeginsWithLine left line after → 1 + length after ≤ length left
 line_less left line after begins =
     let some = line_nonempty line in
     let parts : length left ≡ length (line_text line) + length after = ap length begins.parts ∙ length-append (line_text line) after in
@@ -66,7 +64,7 @@ line_less left line after begins =
 -- what is found where a line is one of a device
 pub device_found : (text : List ℕ) (j : Judged) (left : List ℕ) (id : ℕ) (after : List ℕ) (s : IsJudgedTo text j left) → BeginsWithLine left (Device id) after
     → (lines : List JournalLine) → text ≡ lines_text lines → All LineFits lines
-    → (others : List JournalLine) × (after ≡ lines_text others) × All LineFits others × (first_unlawful 0 [] lines ≡ found_or (broken_at_end j.device s.entries) (first_unlawful id [] others))
+    → (others : List JournalLine) × (after ≡ lines_text others) × All LineFits others × (first_unlawful 0 [] lines ≡ option_or (broken_at_end j.device s.entries) (first_unlawful id [] others))
 device_found text j left id after s begins lines is fit =
     let o = s.of_lines lines is fit in
     let one = one_line left (Device id) after o.0 begins o.1 o.2 in
@@ -75,7 +73,7 @@ device_found text j left id after s begins lines is fit =
 -- and of an entry
 pub entry_found : (text : List ℕ) (j : Judged) (left : List ℕ) (entry : Item) (after : List ℕ) (s : IsJudgedTo text j left) → BeginsWithLine left (Entry entry) after
     → (lines : List JournalLine) → text ≡ lines_text lines → All LineFits lines
-    → (others : List JournalLine) × (after ≡ lines_text others) × All LineFits others × (first_unlawful 0 [] lines ≡ found_or (entry_broken j.device s.entries entry) (first_unlawful j.device (s.entries ++ entry ∷ []) others))
+    → (others : List JournalLine) × (after ≡ lines_text others) × All LineFits others × (first_unlawful 0 [] lines ≡ option_or (entry_broken j.device s.entries entry) (first_unlawful j.device (s.entries ++ entry ∷ []) others))
 entry_found text j left entry after s begins lines is fit =
     let o = s.of_lines lines is fit in
     let one = one_line left (Entry entry) after o.0 begins o.1 o.2 in
@@ -89,7 +87,7 @@ judged_device text j new left id after s begins judged none = record {
   few = omega (arith, s.few, line_less left (Device id) after begins);
   of_lines = λ lines is fit.
       let o = device_found text j left id after s begins lines is fit in
-      (o.0, o.1, o.2, o.3 ∙ ap (λ (f : Option Verdict). found_or f (first_unlawful id [] o.0)) none ∙ ap (λ (d : ℕ). first_unlawful d [] o.0) (sym judged.of_device));
+      (o.0, o.1, o.2, o.3 ∙ ap (λ (f : Option Verdict). option_or f (first_unlawful id [] o.0)) none ∙ ap (λ (d : ℕ). first_unlawful d [] o.0) (sym judged.of_device));
 }
 
 -- where an entry breaks no rule, what it makes of the journal is judged
@@ -100,11 +98,11 @@ judged_entry text j new left entry after s begins judged none = record {
   few = omega (arith, s.few, line_less left (Entry entry) after begins, length-append s.entries (entry ∷ []));
   of_lines = λ lines is fit.
       let o = entry_found text j left entry after s begins lines is fit in
-      (o.0, o.1, o.2, o.3 ∙ ap (λ (f : Option Verdict). found_or f (first_unlawful j.device (s.entries ++ entry ∷ []) o.0)) none ∙ ap (λ (d : ℕ). first_unlawful d (s.entries ++ entry ∷ []) o.0) (sym judged.of_device));
+      (o.0, o.1, o.2, o.3 ∙ ap (λ (f : Option Verdict). option_or f (first_unlawful j.device (s.entries ++ entry ∷ []) o.0)) none ∙ ap (λ (d : ℕ). first_unlawful d (s.entries ++ entry ∷ []) o.0) (sym judged.of_device));
 }
 
 -- what was found first stands
-pub found_stands : (found other : Option Verdict) → found ≢ None → found_or found other ≡ found
+pub found_stands : (found other : Option Verdict) → found ≢ None → option_or found other ≡ found
 found_stands (Some v) other some = refl
 found_stands None other some = absurd (some refl)
 
@@ -134,34 +132,3 @@ ends_judged text j left s none lines is fit =
     go : (rest : List JournalLine) → left ≡ lines_text rest → All LineFits rest → first_unlawful j.device s.entries rest ≡ broken_at_end j.device s.entries
     go [] parts fits = refl
     go (line ∷ others) parts fits = absurd (none line (lines_text others) (record { parts = parts; fits = fits 0 line (omega arith) }))
-
--- ---- what is found says that a journal is unlawful
-abbrev SaysSo : Option Verdict → Type 0
-SaysSo None = Unit {0}
-SaysSo (Some v) = says_unlawful v ≡ Some v
-
-either_says : (f other : Option Verdict) → SaysSo f → SaysSo other → SaysSo (found_or f other)
-either_says (Some v) other first second = first
-either_says None other first second = second
-
-end_says : (device : ℕ) (items : List Item) → SaysSo (broken_at_end device items)
-end_says device items = go (few_unsent items)
-  where
-    go : (b : Bool) → SaysSo (if b then None else Some (verdict.Item device (length items + 1) 7))
-    go true = tt
-    go false = refl
-
-entry_says : (device : ℕ) (items : List Item) (entry : Item) → SaysSo (entry_broken device items entry)
-entry_says device items entry = go (rule_broken items entry)
-  where
-    go : (r : Option Rule) → SaysSo (option_map (λ (r : Rule). verdict.Item device (length items + 1) (rule_number r)) r)
-    go (Some r) = refl
-    go None = tt
-
-all_say : (device : ℕ) (items : List Item) (lines : List JournalLine) → SaysSo (first_unlawful device items lines)
-all_say device items [] = end_says device items
-all_say device items (Device id ∷ lines) = either_says (broken_at_end device items) (first_unlawful id [] lines) (end_says device items) (all_say id [] lines)
-all_say device items (Entry entry ∷ lines) = either_says (entry_broken device items entry) (first_unlawful device (items ++ entry ∷ []) lines) (entry_says device items entry) (all_say device (items ++ entry ∷ []) lines)
-
-pub unlawful_says : (lines : List JournalLine) (v : Verdict) → Some v ≡ first_unlawful 0 [] lines → says_unlawful v ≡ first_unlawful 0 [] lines
-unlawful_says lines v is = subst SaysSo (sym is) (all_say 0 [] lines) ∙ is

@@ -1,5 +1,5 @@
 -- What an audit file comes to: a verdict on it, or its first fault.
-use Rattle.std.specs.Prelude.{◌≡◌, ℕ, ◌+◌, List, [], map, Option, Some, None, Result, Ok, Err}
+use Rattle.std.specs.Prelude.{◌≡◌, ℕ, ◌+◌, List, map, Result, Ok, Err}
 use Rattle.rd_base.specs.declared.journal.Item.{Item}
 use Rattle.rd_base.specs.Position.{Position}
 use Rattle.rd_script.specs.declared.keyword.Mode.TheVariants as mode
@@ -16,8 +16,7 @@ use Rattle.rd_recorded.specs.Entries.{recorded_channels}
 use Rattle.rd_audit.specs.declared.no.AuditNo.{AuditNo}
 use Rattle.rd_audit.specs.declared.no.AuditNo.TheVariants as no
 use Rattle.rd_audit.specs.declared.verdict.Verdict.{Verdict}
-use Rattle.rd_audit.specs.declared.verdict.Verdict.TheVariants as verdict
-use Rattle.rd_audit.specs.Lawful.{first_unlawful}
+use Rattle.rd_audit.specs.Judged.{judged}
 use Rattle.rd_audit.specs.Refusals.{refused_field}
 
 -- the devices of a script, by id
@@ -49,18 +48,13 @@ pub record HasRecording (bytes : List ℕ) (script : Script) (journals : List (�
   pub behind : HasJournals bytes script journals begin
   pub reads : recorded_channels begin.at begin.left ≡ Ok channels
 
--- what a verdict says of journals alone, if it says that
-abbrev pub says_unlawful : Verdict → Option Verdict
-says_unlawful (verdict.Item device item clause) = Some (verdict.Item device item clause)
-says_unlawful other = None
-
--- A file is judged: it has all its parts, and the verdict names the first entry of a journal that breaks a rule exactly where there is one.
+-- A file is judged: it has all its parts, and the verdict is that on them.
 pub record IsAudited (bytes : List ℕ) (v : Verdict) : Type 0 where
   pub script : Script
   pub journals : List (ℕ × List Item)
   pub channels : List HeardChannel
   pub parts : HasRecording bytes script journals channels
-  pub lawful : says_unlawful v ≡ first_unlawful 0 [] (journal_lines journals)
+  pub verdict : v ≡ judged (script_devices script) (journal_lines journals) channels
 
 -- A file is refused for its first fault, or for want of memory.
 pub data IsRefusedFile (bytes : List ℕ) : AuditNo → Type 0 where

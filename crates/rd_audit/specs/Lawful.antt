@@ -1,5 +1,6 @@
 -- The first entry of journals that breaks a rule of journals.
 use Rattle.std.specs.Prelude.{◌≡◌, ℕ, ◌+◌, if◌then◌else◌, List, [], ◌∷◌, ◌++◌, length, Option, Some, None, option_map}
+use Rattle.std.specs.Option.{option_or}
 use Rattle.rd_base.specs.declared.journal.Item.{Item}
 use Rattle.rd_audit_file.specs.declared.line.JournalLine.{JournalLine}
 use Rattle.rd_audit_file.specs.declared.line.JournalLine.TheVariants.{Device, Entry}
@@ -20,17 +21,12 @@ entry_broken device items entry = option_map (λ (r : Rule). verdict.Item device
 abbrev pub broken_at_end : ℕ → List Item → Option Verdict
 broken_at_end device items = if few_unsent items then None else Some (verdict.Item device (length items + 1) (rule_number rule.FewUnsent))
 
--- the first that is found, if one is
-abbrev pub found_or : Option Verdict → Option Verdict → Option Verdict
-found_or (Some v) other = Some v
-found_or None other = other
-
 -- Of the journals of these lines, where these entries of a device's journal stand before them: the first entry that breaks a rule, or the first journal that may
 -- not end where it does, whichever comes first.
 abbrev pub first_unlawful : ℕ → List Item → List JournalLine → Option Verdict
 first_unlawful device items [] = broken_at_end device items
-first_unlawful device items (Device id ∷ lines) = found_or (broken_at_end device items) (first_unlawful id [] lines)
-first_unlawful device items (Entry entry ∷ lines) = found_or (entry_broken device items entry) (first_unlawful device (items ++ entry ∷ []) lines)
+first_unlawful device items (Device id ∷ lines) = option_or (broken_at_end device items) (first_unlawful id [] lines)
+first_unlawful device items (Entry entry ∷ lines) = option_or (entry_broken device items entry) (first_unlawful device (items ++ entry ∷ []) lines)
 
 -- these entries of a device's journal were judged
 pub record HasJudged (j : Judged) (device : ℕ) (items : List Item) : Type 0 where

@@ -1,3 +1,10 @@
 pub mod Refusals
 pub mod Lawful
+pub mod Said
+pub mod Replayed
+pub mod Kept
+pub mod Walked
+pub mod Telling
+pub mod Completions
+pub mod Judged
 pub mod Audit

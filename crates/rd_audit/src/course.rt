@@ -1,8 +1,15 @@
 //! What came of each request at its device, by the devices' journals.
 
+ghost use Rattle.std.specs.Prelude.{◌≡◌, IfOk, Some, slice_get, option_and_then};
+ghost use Rattle.rd_audit.specs.declared.course.Course.{Course};
+ghost use Rattle.rd_audit.specs.Completions.{has_come};
+ghost use Rattle.rd_audit.specs.Kept.{Changes, KeepsCourses, key_places, with_course, with_item};
+ghost use Rattle.rd_audit.specs.Replayed.{no_course};
+
 use rd_base::Key;
 use rd_recorded::HeardChannel;
 use std::alloc::{AllocError, Global};
+use std::marker::Model;
 
 /// What its device gave a request.
 #[derive(Clone, Copy, Debug, PartialEq, Eq)]
@@ -42,7 +49,9 @@ pub struct Course {
 
 impl Course {
     /// Whether the request came to its device.
-    pub fn came(self) -> bool {
+    pub fn came(self) -> bool
+        ensures { result ≡ has_come self }
+    {
         self.given != Given::Absent
     }
 }
@@ -53,9 +62,20 @@ pub struct Courses {
     channels: Vec<Vec<Course>>,
 }
 
+impl Model for Courses {
+    ghost use Rattle.std.specs.Prelude.{List, map};
+    ghost use Rattle.rd_audit.specs.declared.course.Course.{Course};
+
+    ghost Value = { List (List Course) };
+
+    ghost view = { λ c. map (λ v. v.items) c.channels.items };
+}
+
 impl Courses {
     /// Of requests that didn't come.
-    pub fn new(alloc: Global, channels: &[HeardChannel<'_>]) -> Result<Courses, AllocError> {
+    pub fn new(alloc: Global, channels: &[HeardChannel<'_>]) -> Result<Courses, AllocError>
+        ensures { IfOk result (λ courses. KeepsCourses channels.now (λ key. no_course) courses) }
+    {
         let absent = Course {
             given: Given::Absent,
             sent: None,
@@ -68,36 +88,73 @@ impl Courses {
     }
 
     /// What came of the request with an index on the channel at a place.
-    pub fn at(&self, channel: usize, index: usize) -> Option<Course> {
+    pub fn at(&self, channel: usize, index: usize) -> Option<Course>
+        ensures { result ≡ option_and_then (λ c. slice_get c index) (slice_get self.now channel) }
+    {
         self.channels.get(channel)?.get(index).copied()
     }
 
     /// The device gave this to the request of a key.
-    pub fn give(&mut self, key: Key, given: Given) {
-        if let Some(course) = self.of(key) {
-            course.given = given;
+    pub fn give(&mut self, key: Key, given: Given)
+        ensures { Changes key (λ (c : Course). record c { given = given }) self.old self.new }
+    {
+        if let Some((channel, index)) = key_places(key) {
+            if let Some(course) = self.at(channel, index) {
+                self.put(
+                    channel,
+                    index,
+                    Course {
+                        given,
+                        sent: course.sent,
+                    },
+                );
+            }
         }
     }
 
     /// The completion of the request of a key was handed out.
-    pub fn send(&mut self, key: Key, handed: Handed) {
-        if let Some(course) = self.of(key) {
-            course.sent = Some(handed);
+    pub fn send(&mut self, key: Key, handed: Handed)
+        ensures { Changes key (λ (c : Course). record c { sent = Some handed }) self.old self.new }
+    {
+        if let Some((channel, index)) = key_places(key) {
+            if let Some(course) = self.at(channel, index) {
+                self.put(
+                    channel,
+                    index,
+                    Course {
+                        given: course.given,
+                        sent: Some(handed),
+                    },
+                );
+            }
         }
     }
 
-    /// What came of the request of a key.
-    fn of(&mut self, key: Key) -> Option<&mut Course> {
-        let (channel, index) = places_of(key)?;
-        self.channels.get_mut(channel)?.get_mut(index)
+    /// This came of the request with an index on the channel at a place.
+    fn put(&mut self, channel: usize, index: usize, course: Course)
+        ensures { self.new ≡ with_course channel index course self.old }
+    {
+        if let Some(courses) = self.channels.get_mut(channel) {
+            put_at(courses, index, course);
+        }
+    }
+}
+
+/// This came of the request with an index.
+fn put_at(courses: &mut Vec<Course>, index: usize, course: Course)
+    ensures { courses.new.items ≡ with_item index course courses.old.items }
+{
+    if let Some(kept) = courses.get_mut(index) {
+        *kept = course;
     }
 }
 
 /// The places of a key's channel among the channels and of its request among the channel's requests.
-pub fn places_of(key: Key) -> Option<(usize, usize)> {
-    let channel = key.channel.checked_sub(1)?;
-    let Ok(index) = usize::try_from(key.index) else {
+fn key_places(key: Key) -> Option<(usize, usize)>
+    ensures { result ≡ key_places key }
+{
+    if key.channel == 0 {
         return None;
-    };
-    Some((channel as usize, index))
+    }
+    Some(((key.channel - 1) as usize, key.index as usize))
 }

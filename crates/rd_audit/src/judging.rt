@@ -1,17 +1,25 @@
 //! The judgement of an audit file.
 
-ghost use Rattle.std.specs.Prelude.{◌≡◌, ℕ, ◌+◌, ◌<◌, ◌^◌, List, [], All, IfErr, IfOk, None, length, map};
+ghost use Rattle.std.specs.Prelude.{◌≡◌, ℕ, ◌+◌, ◌<◌, ◌^◌, List, All, IfErr, IfOk, Some, false, length, map, slice_get, unwrap_or};
+ghost use Rattle.std.specs.List.{AllByRecursion};
+ghost use Rattle.std.specs.Option.{option_map_or};
 ghost use Rattle.rd_declared.specs.Devices.{Declared};
 ghost use Rattle.rd_audit_file.specs.declared.line.JournalLine.{JournalLine};
 ghost use Rattle.rd_audit_file.specs.Journals.{lines_text};
 ghost use Rattle.rd_audit_file.specs.Lines.{LineFits};
 ghost use Rattle.rd_audit.specs.declared.no.AuditNo.TheVariants.{Memory};
-ghost use Rattle.rd_audit.specs.Audit.{Audits, says_unlawful};
-ghost use Rattle.rd_audit.specs.Lawful.{first_unlawful};
+ghost use Rattle.rd_audit.specs.declared.verdict.Verdict.TheVariants.{Yes};
+ghost use Rattle.rd_audit.specs.Audit.{Audits};
+ghost use Rattle.rd_audit.specs.Completions.{first_lacking, is_due, lacks_completion};
+ghost use Rattle.rd_audit.specs.Judged.{judged};
+ghost use Rattle.rd_audit.specs.Kept.{KeepsCourses};
+ghost use Rattle.rd_audit.specs.Replayed.{Account};
+ghost use Rattle.rd_audit.specs.Walked.{HasNoneWaiting};
+ghost use Rattle.rd_recorded.specs.Channels.{HeardChannel as Heard};
 ghost use Rattle.rd_audit.specs.Refusals.{ChecksAt};
 
 use crate::completions::first_wrong;
-use crate::course::Courses;
+use crate::course::{Course, Courses};
 use crate::journals::replay_journals;
 use crate::lawful::first_unlawful;
 use crate::no::AuditNo;
@@ -70,8 +78,9 @@ fn judge(
     text: &[u8],
     channels: &[HeardChannel<'_>],
 ) -> Result<Verdict, AuditNo>
-    requires { length text.now < 2 ^ 62 }
-    ensures lawful { (lines : List JournalLine) → text.now ≡ lines_text lines → All LineFits lines → IfOk result (λ v. says_unlawful v ≡ first_unlawful 0 [] lines) }
+    requires fits { length text.now < 2 ^ 62 }
+    requires quiet { AllByRecursion HasNoneWaiting devices.entries }
+    ensures judged { (lines : List JournalLine) → text.now ≡ lines_text lines → All LineFits lines → IfOk result (λ v. v ≡ judged devices.entries lines channels.now) }
     ensures refused { IfErr result (λ no. no ≡ Memory) }
 {
     if let Some(verdict) = first_unlawful(alloc, text)? {
@@ -83,13 +92,13 @@ fn judge(
     };
     match first_wrong(alloc, channels, &replayed)? {
         Some(verdict) => Ok(verdict),
-        None => Ok(first_open(channels, &replayed.courses)),
+        None => Ok(first_lacking(channels, &replayed.courses)),
     }
 }
 
 /// The first channel that lacks a completion, if one does.
-fn first_open(channels: &[HeardChannel<'_>], courses: &Courses) -> Verdict
-    ensures { says_unlawful result ≡ None }
+fn first_lacking(channels: &[HeardChannel<'_>], courses: &Courses) -> Verdict
+    ensures { (account : Account) → KeepsCourses channels.now account.courses courses.now → result ≡ unwrap_or (first_lacking account 1 channels.now) Yes }
 {
     for place in 0..channels.len() {
         if lacks(&channels[place], place, courses) {
@@ -102,15 +111,24 @@ fn first_open(channels: &[HeardChannel<'_>], courses: &Courses) -> Verdict
 
 /// Whether a request of the channel at a place has no completion that it should have: each one has where the channel didn't end, and each one whose completion
 /// was handed out.
-fn lacks(channel: &HeardChannel<'_>, place: usize, courses: &Courses) -> bool {
-    for index in 0..channel.requests.len() {
-        let is_due = match courses.at(place, index) {
-            Some(course) => !channel.ended || course.sent.is_some(),
-            None => false,
-        };
-        if is_due && channel.requests[index].completion.is_none() {
+fn lacks(channel: &HeardChannel<'_>, place: usize, courses: &Courses) -> bool
+    ensures { (channels : List Heard) (account : Account) → slice_get channels place ≡ Some channel.now → KeepsCourses channels account.courses courses.now
+        → result ≡ lacks_completion account (place + 1) channel.now }
+{
+    for (index, asked) in channel.requests.iter().enumerate() {
+        if is_due(channel.ended, courses.at(place, index)) && asked.completion.is_none() {
             return true;
         }
     }
     false
+}
+
+/// Whether a request with this course on a channel that ended, or didn't, should have a completion.
+fn is_due(ended: bool, course: Option<Course>) -> bool
+    ensures { result ≡ option_map_or (is_due ended) course false }
+{
+    match course {
+        Some(course) => !ended || course.sent.is_some(),
+        None => false,
+    }
 }

@@ -1,11 +1,17 @@
 //! Whether a completion says what a device replied.
 
+ghost use Rattle.std.specs.Prelude.{◌≡◌, IfOk};
+ghost use Rattle.rd_drive.specs.Outcome.{fault};
+ghost use Rattle.rd_audit.specs.Said.{same_body, says};
+
 use rd_base::{ReadNo, Status};
 use rd_irp::{Body, COMPLETION_HEAD_LEN, Kind, Reply, read_body, read_head};
 use std::alloc::{AllocError, Global};
 
 /// A reply that a request isn't done.
-pub fn fault(status: Status) -> Reply {
+pub fn fault(status: Status) -> Reply
+    ensures { result ≡ fault status }
+{
     Reply {
         status,
         body: Body::Fault,
@@ -18,11 +24,13 @@ pub fn completes(
     kind: Kind,
     message: &[u8],
     reply: &Reply,
-) -> Result<bool, AllocError> {
+) -> Result<bool, AllocError>
+    ensures { IfOk result (λ same. same ≡ says kind message.now reply.now) }
+{
     let Ok(head) = read_head(message) else {
         return Ok(false);
     };
-    if head.status != reply.status {
+    if head.status.0 != reply.status.0 {
         return Ok(false);
     }
     match read_body(alloc, kind, head.status, &message[COMPLETION_HEAD_LEN..]) {
@@ -33,7 +41,9 @@ pub fn completes(
 }
 
 /// Whether two bodies say the same.
-fn is_same(said: &Body, body: &Body) -> bool {
+fn is_same(said: &Body, body: &Body) -> bool
+    ensures { result ≡ same_body said.now body.now }
+{
     match said {
         Body::Created { file, information } => match body {
             Body::Created {

@@ -5,8 +5,5 @@ use rd_base::Status;
 /// The device is gone.
 pub const NO_SUCH_DEVICE: Status = Status(0xc000_000e);
 
-/// The device's journal is worn.
-pub const INSUFFICIENT_RESOURCES: Status = Status(0xc000_009a);
-
 /// The device was removed before it ran the request.
 pub const CANCELLED: Status = Status(0xc000_0120);

@@ -1,5 +1,11 @@
 use Rattle.std.proofs.Common.{ℕ, ◌-◌, List, length, subst, sym, ap, ◌∙◌, rules, arith}
-use Rattle.rd_declared.specs.Declaring.{AreDeclarable}
+use Rattle.std.specs.List.{AllByRecursion}
+use Rattle.rd_declared.specs.Declaring.{AreDeclarable, bare_lines, declared_devices}
+use Rattle.rd_declared.specs.Devices.{Declared}
+use Rattle.rd_declared.proofs.DeclaringLemmas.{declared_openable}
+use Rattle.rd_script.specs.declared.line.NumberedLine.{NumberedLine}
+use Rattle.rd_audit.specs.Walked.{HasNoneWaiting}
+use Rattle.rd_audit.proofs.WalkLemmas.{quiet_devices}
 use Rattle.rd_declared.proofs.DeclaredLemmas.{scripts_are_declared}
 use Rattle.rd_script.specs.declared.keyword.Mode.TheVariants as mode
 use Rattle.rd_audit_file.specs.Journals.{IsJournalText}
@@ -7,7 +13,7 @@ use Rattle.rd_recorded.specs.Entries.{recorded_channels}
 use Rattle.rd_audit.specs.Audit.{HasJournals, HasRecording, HasScript, cut_script, cut_text, no_magic, no_memory}
 use Rattle.rd_audit.specs.Refusals.{refused_field, refused_recording, refused_script}
 use Rattle.rd_audit.specs.declared.no.AuditNo.TheVariants as no
-use Rattle.rd_audit.proofs.AuditLemmas.{ids_are, judged, recording_refused, refused, script_refused, text_refused}
+use Rattle.rd_audit.proofs.AuditLemmas.{ids_are, judged_parts, recording_refused, refused, script_refused, text_refused}
 use Rattle.rd_audit.proofs.PartLemmas.{counted_goes, file_goes}
 use Rattle.rd_audit.proofs.judging.audit.Goals as goal
 
@@ -81,12 +87,19 @@ returns-in_err-channels c =
     (recording_refused c.args.bytes.now c.in_ok-script.script text.0 c.counted-2.new.self c.at-2.result c.rest.result.now c.in_err-channels.field-0.0 journals c.at-2.ensures c.rest.ensures c.in_err-channels.ensures.refused)
 
 -- src/judging.rt:38:5
-pub judge-requires : goal.judge-requires
-judge-requires c =
+pub judge-requires-clause-fits : goal.judge-requires-clause-fits
+judge-requires-clause-fits c =
     let whole = file_goes c.args.bytes.now c.in_ok-file.file (sym c.begin.ensures ∙ c.in_ok-file.was) in
     let first = counted_goes c.in_ok-file.file c.counted.new.self c.in_ok-counted.field-0.now c.in_ok-counted.ensures in
     let second = counted_goes c.counted.new.self c.counted-2.new.self c.in_ok-text.text.now c.in_ok-text.ensures in
     omega (arith, whole, first.whole, second.within, c.requires)
+
+-- src/judging.rt:38:5
+pub judge-requires-clause-quiet : goal.judge-requires-clause-quiet
+judge-requires-clause-quiet c =
+    let declared = c.in_ok-devices.ensures ∙ ap (λ (ls : List NumberedLine). declared_devices (bare_lines ls)) c.as_slice.ensures in
+    let lines = scripts_are_declared mode.Both c.in_ok-counted.field-0.now c.in_ok-script.script c.in_ok-script.ensures.script in
+    subst (λ (ds : List (ℕ × Declared)). AllByRecursion HasNoneWaiting ds) (sym declared) (quiet_devices _ (declared_openable (c.in_ok-script.script).lines lines).each)
 
 -- src/judging.rt:27:1
 pub returns : goal.returns
@@ -97,5 +110,6 @@ returns c =
     let reads = subst (λ (xs : List ℕ). IsJournalText xs c.in_ok-text.text.now text.0) ids text.1 in
     let journals : HasJournals c.args.bytes.now c.in_ok-script.script text.0 c.counted-2.new.self = record { begin = c.counted.new.self; text = c.in_ok-text.text.now; behind = script; counted = c.in_ok-text.ensures; reads = reads } in
     let heard = ap (λ (n : ℕ). recorded_channels n (c.counted-2.new.self).left) (sym c.at-2.ensures) ∙ ap (recorded_channels c.at-2.result) (sym c.rest.ensures) ∙ c.in_ok-channels.ensures.heard in
+    let declared = c.in_ok-devices.ensures ∙ ap (λ (ls : List NumberedLine). declared_devices (bare_lines ls)) c.as_slice.ensures in
     let recording : HasRecording c.args.bytes.now c.in_ok-script.script text.0 c.in_ok-channels.channels.items = record { begin = c.counted-2.new.self; behind = journals; reads = heard } in
-    judged c.args.bytes.now c.in_ok-script.script text.0 c.in_ok-channels.channels.items c.in_ok-text.text.now c.judge.result recording reads c.judge.ensures.lawful c.judge.ensures.refused
+    judged_parts c.args.bytes.now c.in_ok-script.script text.0 c.in_ok-channels.channels.items c.as_slice-3.result.now c.in_ok-text.text.now c.in_ok-devices.devices.entries c.judge.result recording reads declared c.as_slice-3.ensures.value c.judge.ensures.judged c.judge.ensures.refused

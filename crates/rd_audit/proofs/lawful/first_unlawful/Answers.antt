@@ -1,7 +1,8 @@
 use Rattle.std.proofs.Common.{◌≡◌, Option, None, Ok, [], ◌∷◌, ◌++◌, sym, ap, subst, ◌∙◌, arith}
+use Rattle.std.specs.Option.{option_or}
 use Rattle.rd_audit_file.specs.declared.line.JournalLine.{JournalLine}
 use Rattle.rd_audit_file.specs.Lines.{BeginsWithLine}
-use Rattle.rd_audit.specs.Lawful.{ReadsNextLine, broken_at_end, entry_broken, first_unlawful, found_or}
+use Rattle.rd_audit.specs.Lawful.{ReadsNextLine, broken_at_end, entry_broken, first_unlawful}
 use Rattle.rd_audit.specs.declared.verdict.Verdict.{Verdict}
 use Rattle.rd_audit.proofs.LineLemmas.{IsJudgedTo, device_found, ends_judged, entry_found, found_stands, judged_device, judged_entry, none_is, some_is}
 use Rattle.rd_audit.proofs.lawful.first_unlawful.Goals as goal
@@ -22,11 +23,11 @@ returns-then-is_some c lines is fit =
       | in-Device w ↦
           let o = device_found text j left w.in-Device.id after s (subst (λ (l : JournalLine). BeginsWithLine left l after) w.in-Device.is read) lines is fit in
           let f : found ≡ broken_at_end j.device s.entries = w.found-is ∙ w.end-found.ensures s.entries s.judged in
-          sym (o.3 ∙ ap (λ (x : Option Verdict). found_or x (first_unlawful w.in-Device.id [] o.0)) (sym f) ∙ found_stands found _ some)
+          sym (o.3 ∙ ap (λ (x : Option Verdict). option_or x (first_unlawful w.in-Device.id [] o.0)) (sym f) ∙ found_stands found _ some)
       | in-Entry+in_ok-found-in-Entry w ↦
           let o = entry_found text j left w.in-Entry.entry after s (subst (λ (l : JournalLine). BeginsWithLine left l after) w.in-Entry.is read) lines is fit in
           let f : found ≡ entry_broken j.device s.entries w.in-Entry.entry = w.found-is ∙ w.in_ok-found-in-Entry.ensures.found s.entries s.judged in
-          sym (o.3 ∙ ap (λ (x : Option Verdict). found_or x (first_unlawful j.device (s.entries ++ w.in-Entry.entry ∷ []) o.0)) (sym f) ∙ found_stands found _ some)
+          sym (o.3 ∙ ap (λ (x : Option Verdict). option_or x (first_unlawful j.device (s.entries ++ w.in-Entry.entry ∷ []) o.0)) (sym f) ∙ found_stands found _ some)
     ]
 
 -- src/lawful.rt:24:5

@@ -1,0 +1,2 @@
+pub mod YesLemmas
+pub mod OwnLemmas
